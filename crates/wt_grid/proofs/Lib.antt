@@ -1,0 +1,15 @@
+pub mod First
+pub mod Order
+pub mod Grids
+pub mod Parts
+pub mod Bridge
+pub mod Desub
+pub mod Others
+pub mod Coarse
+pub mod Cut
+pub mod Backwards
+pub mod Law
+pub mod Rectangles
+pub mod Runs
+pub mod Widths
+pub mod Periods

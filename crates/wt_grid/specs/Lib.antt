@@ -1,0 +1,7 @@
+pub mod First
+pub mod Order
+pub mod Grid
+pub mod Parts
+pub mod Lines
+pub mod Cuts
+pub mod Widths

@@ -1,0 +1,8 @@
+//! Patterns: rectangles of tile numbers.
+#![tactic(auto)]
+
+mod fault;
+mod pattern;
+
+pub use fault::{Fault, ShapeFault};
+pub use pattern::Pattern;

@@ -1,0 +1,311 @@
+// The checker of refutation trees.
+ghost use Rattle.std.specs.Prelude.{◌≡◌, ℕ, ◌+◌, ◌-◌, ◌*◌, ◌^◌, ◌<◌, ◌≤◌, [], ◌∷◌, length, MatchOption, MatchResult, None, Some, replicate, slice_set};
+ghost use Rattle.std.specs.Option.{option_map};
+ghost use Rattle.wt_refute.specs.Refutation.{node_count, tiles_in, held};
+ghost use Rattle.wt_refute.specs.View.{refutation, children_view};
+ghost use Rattle.wt_refute.specs.Field.{window_shape};
+ghost use Rattle.wt_refute.specs.Placed.{placed, window_of, tile_window, AreTiles, next_cell as cell_beside};
+ghost use Rattle.wt_refute.specs.Refutes.{same_axis as one_axis, lies_inside as is_inside, serves as it_serves, next_placed as the_next, is_cited as cited, is_branching as branching, first_wrong, tree_fault};
+
+use crate::window::{above, is_free, next_fitting, right_of, shape_of, tile_in};
+use crate::{Child, Refuted, Tree};
+use wt_tile::{Axis, SetRef, Tile};
+
+/// The first wrong node of a tree in preorder, held at the last value of usize.
+#[derive(Clone, Copy, Debug, PartialEq, Eq)]
+pub struct TreeFault {
+    pub node: usize,
+}
+
+fn same_axis(a: Axis, b: Axis) -> bool
+    ensures { result ≡ one_axis a b }
+{
+    match a {
+        Axis::One => match b {
+            Axis::One => true,
+            Axis::Two => false,
+        },
+        Axis::Two => match b {
+            Axis::One => false,
+            Axis::Two => true,
+        },
+    }
+}
+
+fn lies_inside(shape: (usize, usize), cell: usize, axis: Axis, radius: u8) -> bool
+    requires wide { 0 < shape.0 }
+    requires low { cell < 2 ^ 32 }
+    ensures { result ≡ is_inside shape.0 shape.1 cell axis radius }
+{
+    let x = cell % shape.0;
+    let y = cell / shape.0;
+    let inner = shape_of(axis, radius);
+    let radius = usize::from(radius);
+    radius <= x && radius <= y && x - radius + inner.0 <= shape.0 && y - radius + inner.1 <= shape.1
+}
+
+fn serves(
+    radius: u8,
+    shape: (usize, usize),
+    cell: usize,
+    axis: Axis,
+    a: u16,
+    b: u16,
+    entry: &Refuted,
+) -> bool
+    requires wide { 0 < shape.0 }
+    requires low { cell < 2 ^ 32 }
+    ensures { result ≡ it_serves radius shape.0 shape.1 cell axis a b entry.now }
+{
+    same_axis(entry.axis, axis)
+        && entry.a == a
+        && entry.b == b
+        && entry.radius < radius
+        && lies_inside(shape, cell, axis, entry.radius)
+}
+
+fn next_placed(shape: (usize, usize), cells: &[Option<u16>], cell: usize, axis: Axis) -> Option<u16>
+    requires wide { 0 < shape.0 }
+    requires small { shape.0 < 2 ^ 32 }
+    requires low { cell < 2 ^ 32 }
+    ensures { result ≡ the_next (placed shape cells.now) cell axis }
+{
+    match axis {
+        Axis::One => right_of(shape, cells, cell),
+        Axis::Two => above(shape, cells, cell),
+    }
+}
+
+pub fn is_cited(
+    radius: u8,
+    known: &[Refuted],
+    shape: (usize, usize),
+    cells: &[Option<u16>],
+    cell: usize,
+    axis: Axis,
+) -> bool
+    requires wide { 0 < shape.0 }
+    requires small { shape.0 < 2 ^ 32 }
+    requires low { cell < 2 ^ 32 }
+    ensures { result ≡ cited radius known.now (placed shape cells.now) cell axis }
+{
+    let Some(a) = tile_in(shape, cells, cell) else {
+        return false;
+    };
+    let Some(b) = next_placed(shape, cells, cell, axis) else {
+        return false;
+    };
+    for entry in known {
+        if serves(radius, shape, cell, axis, a, b, entry) {
+            return true;
+        }
+    }
+    false
+}
+
+fn is_branching(
+    tiles: &[Tile],
+    shape: (usize, usize),
+    cells: &[Option<u16>],
+    cell: usize,
+    children: &[Child],
+) -> bool
+    requires wide { 0 < shape.0 }
+    requires small { shape.0 < 2 ^ 32 }
+    requires low { cell < 2 ^ 32 }
+    requires few { length tiles.now ≤ 65536 }
+    requires placed { AreTiles (length tiles.now) cells.now }
+    ensures { result ≡ branching tiles.now (placed shape cells.now) cell (tiles_in (children_view children.now)) }
+{
+    if !is_free(shape, cells, cell) {
+        return false;
+    }
+    let mut from = 0usize;
+    for child in children {
+        let Some(tile) = next_fitting(tiles, shape, cells, cell, from) else {
+            return false;
+        };
+        if tile != usize::from(child.tile) {
+            return false;
+        }
+        from = tile + 1;
+    }
+    next_fitting(tiles, shape, cells, cell, from).is_none()
+}
+
+pub fn put(tiles: &[Tile], cells: &mut [Option<u16>], cell: usize, tile: u16)
+    requires within { cell < length cells.old }
+    requires tile { tile < length tiles.now }
+    requires placed { AreTiles (length tiles.now) cells.old }
+    ensures value { cells.new ≡ slice_set cells.old cell (Some tile) }
+    ensures placed { AreTiles (length tiles.now) cells.new }
+{
+    cells[cell] = Some(tile);
+}
+
+/// The number of nodes, or the first wrong one.
+fn walk(
+    tiles: &[Tile],
+    radius: u8,
+    known: &[Refuted],
+    shape: (usize, usize),
+    cells: &mut [Option<u16>],
+    tree: &Tree,
+) -> Result<usize, TreeFault>
+    requires wide { 0 < shape.0 }
+    requires small { shape.0 < 2 ^ 32 }
+    requires few { length tiles.now ≤ 65536 }
+    requires placed { AreTiles (length tiles.now) cells.old }
+    ensures same { cells.new ≡ cells.old }
+    ensures judged { MatchResult result
+        (λ count. (first_wrong tiles.now radius known.now (placed shape cells.old) (refutation tree.now) ≡ None) × (count ≡ held (node_count (refutation tree.now))))
+        (λ fault. option_map held (first_wrong tiles.now radius known.now (placed shape cells.old) (refutation tree.now)) ≡ Some fault.node) }
+{
+    match tree {
+        Tree::Cite { cell, axis } => {
+            if is_cited(radius, known, shape, cells, usize::from(*cell), *axis) {
+                Ok(1)
+            } else {
+                Err(TreeFault { node: 0 })
+            }
+        }
+        Tree::Branch { cell, children } => {
+            let cell = usize::from(*cell);
+            if !is_branching(tiles, shape, cells, cell, children.as_slice()) {
+                return Err(TreeFault { node: 0 });
+            }
+            let mut count = 1usize;
+            for child in children.as_slice() {
+                put(tiles, cells, cell, child.tile);
+                let judged = walk(tiles, radius, known, shape, cells, &child.tree);
+                cells[cell] = None;
+                match judged {
+                    Ok(more) => count = count.saturating_add(more),
+                    Err(fault) => {
+                        return Err(TreeFault {
+                            node: count.saturating_add(fault.node),
+                        });
+                    }
+                }
+            }
+            Ok(count)
+        }
+    }
+}
+
+/// Places a domino in the middle of its free window.
+pub fn place_domino(
+    axis: Axis,
+    a: u16,
+    b: u16,
+    radius: u8,
+    shape: (usize, usize),
+    cells: &mut [Option<u16>],
+)
+    requires shape { shape ≡ window_shape axis radius }
+    requires free { cells.old ≡ replicate (shape.0 * shape.1) None }
+    ensures value { placed shape cells.new ≡ window_of axis a b radius }
+    ensures tiles { (n : ℕ) → a < n → b < n → AreTiles n cells.new }
+{
+    let middle = usize::from(radius) * shape.0 + usize::from(radius);
+    cells[middle] = Some(a);
+    cells[next_cell(axis, shape.0, middle)] = Some(b);
+}
+
+fn next_cell(axis: Axis, width: usize, cell: usize) -> usize
+    requires small { width < 2 ^ 32 }
+    requires low { cell < 2 ^ 32 }
+    ensures { result ≡ cell_beside axis width cell }
+{
+    match axis {
+        Axis::One => cell + 1,
+        Axis::Two => cell + width,
+    }
+}
+
+pub fn free_cells() -> [Option<u16>; 90]
+    ensures { result ≡ replicate 90 None }
+{
+    [None; 90]
+}
+
+/// Whether the tree refutes the window of a domino, with known refutations of lower radius.
+#[tactic(auto, unfolding(crate::specs::Refutes::tree_fault), using(wt_tile::proofs::Sizes::few_tiles))]
+pub fn check_tree(
+    set: SetRef<'_>,
+    axis: Axis,
+    a: u16,
+    b: u16,
+    radius: u8,
+    known: &[Refuted],
+    tree: &Tree,
+) -> Result<(), TreeFault>
+    requires radius { radius ≤ 4 }
+    requires first { a < length set.list.now.tiles }
+    requires second { b < length set.list.now.tiles }
+    ensures { MatchResult result
+        (λ _. tree_fault set.entry.list.now.tiles axis a b radius known.now tree.now ≡ None)
+        (λ fault. tree_fault set.entry.list.now.tiles axis a b radius known.now tree.now ≡ Some fault.node) }
+{
+    check_domino(set.tiles(), axis, a, b, radius, known, tree)
+}
+
+/// The same for the tiles of the set.
+#[tactic(auto, unfolding(crate::specs::Refutes::tree_fault))]
+fn check_domino(
+    tiles: &[Tile],
+    axis: Axis,
+    a: u16,
+    b: u16,
+    radius: u8,
+    known: &[Refuted],
+    tree: &Tree,
+) -> Result<(), TreeFault>
+    requires radius { radius ≤ 4 }
+    requires few { length tiles.now ≤ 256 }
+    requires a_tile { a < length tiles.now }
+    requires b_tile { b < length tiles.now }
+    ensures { MatchResult result
+        (λ _. tree_fault tiles.now axis a b radius known.now tree.now ≡ None)
+        (λ fault. tree_fault tiles.now axis a b radius known.now tree.now ≡ Some fault.node) }
+{
+    let shape = shape_of(axis, radius);
+    let mut all = free_cells();
+    let cells = &mut all[..shape.0 * shape.1];
+    place_domino(axis, a, b, radius, shape, cells);
+    match walk(tiles, radius, known, shape, cells, tree) {
+        Ok(_) => Ok(()),
+        Err(fault) => Err(fault),
+    }
+}
+
+/// Whether the tree refutes the square window of a tile.
+pub fn check_tile_tree(tiles: &[Tile], tile: u16, radius: u8, tree: &Tree) -> Result<(), TreeFault>
+    requires radius { radius ≤ 4 }
+    requires few { length tiles.now ≤ 256 }
+    requires tile { tile < length tiles.now }
+    ensures { MatchResult result
+        (λ _. first_wrong tiles.now radius [] (tile_window tile radius) (refutation tree.now) ≡ None)
+        (λ fault. option_map held (first_wrong tiles.now radius [] (tile_window tile radius) (refutation tree.now)) ≡ Some fault.node) }
+{
+    let radius_wide = usize::from(radius);
+    let side = 2 * radius_wide + 1;
+    let mut all = free_cells();
+    let cells = &mut all[..side * side];
+    place_tile(tile, radius, (side, side), cells);
+    match walk(tiles, radius, &[], (side, side), cells, tree) {
+        Ok(_) => Ok(()),
+        Err(fault) => Err(fault),
+    }
+}
+
+/// Places a tile in the middle of its free window.
+fn place_tile(tile: u16, radius: u8, shape: (usize, usize), cells: &mut [Option<u16>])
+    requires wide { shape.0 ≡ 2 * radius + 1 }
+    requires high { shape.1 ≡ 2 * radius + 1 }
+    requires free { cells.old ≡ replicate (shape.0 * shape.1) None }
+    ensures value { placed shape cells.new ≡ tile_window tile radius }
+    ensures tiles { (n : ℕ) → tile < n → AreTiles n cells.new }
+{
+    cells[usize::from(radius) * shape.0 + usize::from(radius)] = Some(tile);
+}

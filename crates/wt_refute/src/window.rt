@@ -1,0 +1,168 @@
+// Windows with some of their tiles placed.
+ghost use Rattle.std.specs.Prelude.{◌≡◌, ◌+◌, ℕ, ◌-◌, ◌^◌, ◌<◌, ◌≤◌, [], ◌∷◌, length, MatchOption, None};
+ghost use Rattle.wt_refute.specs.Field.{matches as all_match, window_shape as the_shape};
+ghost use Rattle.wt_refute.specs.Placed.{placed, tile_in as the_tile_in, is_free as the_is_free, right_of as the_right, above as the_above, left_of as the_left, below as the_below, may_join as may_stand, IsTile, AreTiles, fits as it_fits, passing};
+
+use wt_tile::{Axis, Tile};
+
+/// The width and height of a window.
+pub fn window_shape(axis: Axis, radius: u8) -> (usize, usize)
+    requires { radius ≤ 4 }
+    ensures { result ≡ the_shape axis radius }
+{
+    shape_of(axis, radius)
+}
+
+pub fn shape_of(axis: Axis, radius: u8) -> (usize, usize)
+    ensures { result ≡ the_shape axis radius }
+{
+    let side = 2 * usize::from(radius) + 1;
+    match axis {
+        Axis::One => (side + 1, side),
+        Axis::Two => (side, side + 1),
+    }
+}
+
+#[tactic(auto, unfolding(crate::specs::Field::matches))]
+fn is_match(tiles: &[Tile], axis: Axis, a: u16, b: u16) -> bool
+    requires first { a < length tiles.now }
+    requires second { b < length tiles.now }
+    ensures { result ≡ all_match tiles.now axis a b }
+{
+    let a = tiles[usize::from(a)];
+    let b = tiles[usize::from(b)];
+    match axis {
+        Axis::One => a.east == b.west,
+        Axis::Two => a.north == b.south,
+    }
+}
+
+pub fn tile_in(shape: (usize, usize), cells: &[Option<u16>], cell: usize) -> Option<u16>
+    ensures value { result ≡ the_tile_in (placed shape cells.now) cell }
+    ensures tile { (n : ℕ) → AreTiles n cells.now → IsTile n result }
+{
+    if cell < cells.len() {
+        cells[cell]
+    } else {
+        None
+    }
+}
+
+pub fn is_free(shape: (usize, usize), cells: &[Option<u16>], cell: usize) -> bool
+    ensures { result ≡ the_is_free (placed shape cells.now) cell }
+{
+    if cell >= cells.len() {
+        return false;
+    }
+    match cells[cell] {
+        None => true,
+        Some(_) => false,
+    }
+}
+
+pub fn right_of(shape: (usize, usize), cells: &[Option<u16>], cell: usize) -> Option<u16>
+    requires wide { 0 < shape.0 }
+    requires small { shape.0 < 2 ^ 32 }
+    requires low { cell < 2 ^ 32 }
+    ensures value { result ≡ the_right (placed shape cells.now) cell }
+    ensures tile { (n : ℕ) → AreTiles n cells.now → IsTile n result }
+{
+    if cell % shape.0 + 1 < shape.0 {
+        tile_in(shape, cells, cell + 1)
+    } else {
+        None
+    }
+}
+
+pub fn above(shape: (usize, usize), cells: &[Option<u16>], cell: usize) -> Option<u16>
+    requires small { shape.0 < 2 ^ 32 }
+    requires low { cell < 2 ^ 32 }
+    ensures value { result ≡ the_above (placed shape cells.now) cell }
+    ensures tile { (n : ℕ) → AreTiles n cells.now → IsTile n result }
+{
+    tile_in(shape, cells, cell + shape.0)
+}
+
+fn left_of(shape: (usize, usize), cells: &[Option<u16>], cell: usize) -> Option<u16>
+    requires wide { 0 < shape.0 }
+    ensures value { result ≡ the_left (placed shape cells.now) cell }
+    ensures tile { (n : ℕ) → AreTiles n cells.now → IsTile n result }
+{
+    if cell % shape.0 > 0 {
+        tile_in(shape, cells, cell - 1)
+    } else {
+        None
+    }
+}
+
+fn below(shape: (usize, usize), cells: &[Option<u16>], cell: usize) -> Option<u16>
+    ensures value { result ≡ the_below (placed shape cells.now) cell }
+    ensures tile { (n : ℕ) → AreTiles n cells.now → IsTile n result }
+{
+    if shape.0 <= cell {
+        tile_in(shape, cells, cell - shape.0)
+    } else {
+        None
+    }
+}
+
+fn may_join(tiles: &[Tile], axis: Axis, a: Option<u16>, b: Option<u16>) -> bool
+    requires first { IsTile (length tiles.now) a }
+    requires second { IsTile (length tiles.now) b }
+    ensures { result ≡ may_stand tiles.now axis a b }
+{
+    match a {
+        None => true,
+        Some(a) => match b {
+            None => true,
+            Some(b) => is_match(tiles, axis, a, b),
+        },
+    }
+}
+
+/// Whether the tile matches every placed neighbour of the cell.
+pub fn fits(
+    tiles: &[Tile],
+    shape: (usize, usize),
+    cells: &[Option<u16>],
+    cell: usize,
+    tile: u16,
+) -> bool
+    requires wide { 0 < shape.0 }
+    requires small { shape.0 < 2 ^ 32 }
+    requires low { cell < 2 ^ 32 }
+    requires placed { AreTiles (length tiles.now) cells.now }
+    requires tile { tile < length tiles.now }
+    ensures { result ≡ it_fits tiles.now (placed shape cells.now) cell tile }
+{
+    may_join(tiles, Axis::One, Some(tile), right_of(shape, cells, cell))
+        && may_join(tiles, Axis::Two, Some(tile), above(shape, cells, cell))
+        && may_join(tiles, Axis::One, left_of(shape, cells, cell), Some(tile))
+        && may_join(tiles, Axis::Two, below(shape, cells, cell), Some(tile))
+}
+
+/// The first tile from a number on that fits.
+#[tactic(auto, using(crate::proofs::Passing::passing_more))]
+pub fn next_fitting(
+    tiles: &[Tile],
+    shape: (usize, usize),
+    cells: &[Option<u16>],
+    cell: usize,
+    from: usize,
+) -> Option<usize>
+    requires wide { 0 < shape.0 }
+    requires small { shape.0 < 2 ^ 32 }
+    requires low { cell < 2 ^ 32 }
+    requires few { length tiles.now ≤ 65536 }
+    requires placed { AreTiles (length tiles.now) cells.now }
+    ensures { MatchOption result
+        (passing (it_fits tiles.now (placed shape cells.now) cell) from (length tiles.now - from) ≡ [])
+        (λ t. (t < length tiles.now) × (passing (it_fits tiles.now (placed shape cells.now) cell) from (length tiles.now - from) ≡ t ∷ passing (it_fits tiles.now (placed shape cells.now) cell) (t + 1) (length tiles.now - (t + 1)))) }
+{
+    for tile in from..tiles.len() {
+        if fits(tiles, shape, cells, cell, tile as u16) {
+            return Some(tile);
+        }
+    }
+    None
+}

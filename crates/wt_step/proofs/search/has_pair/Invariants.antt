@@ -1,0 +1,13 @@
+use Rattle.std.proofs.Common.{◌≡◌, length}
+use Rattle.wt_grid.specs.Order.{has, IsSplit}
+use Rattle.wt_step.specs.Words.{pair_before, is_pair}
+use Rattle.wt_step.proofs.search.has_pair.Given as goal
+
+abbrev pub invariant-loop-front : goal.invariant-loop-front
+invariant-loop-front l = record {
+  kept : has (is_pair l.a l.b) l.left ≡ has (is_pair l.a l.b) l.pairs;
+  split : IsSplit (pair_before l.a l.b) (is_pair l.a l.b) l.left;
+}
+
+abbrev pub decreases-loop-front : goal.decreases-loop-front
+decreases-loop-front l = length l.left

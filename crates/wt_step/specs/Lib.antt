@@ -1,0 +1,6 @@
+pub mod Words
+pub mod Faults
+pub mod Good
+pub mod Restrict
+pub mod Links
+pub mod Meaning

@@ -1,0 +1,125 @@
+-- The words in which the conditions on a step are said.
+use Rattle.std.specs.Prelude.{ℕ, ◌+◌, List, slice_index_or, Option, Bool, false, ◌&&◌, ◌||◌, not, nat_eq, nat_lt, nat_le, if◌then◌else◌}
+use Rattle.wt_tile.specs.declared.tile.Tile.{Tile}
+use Rattle.wt_tile.specs.declared.tile.Axis.{Axis}
+use Rattle.wt_tile.specs.declared.tile.Axis.TheVariants.{One, Two}
+use Rattle.wt_tile.specs.declared.tile.Side.{Side}
+use Rattle.wt_tile.specs.declared.tile.Side.TheVariants.{After, Before}
+use Rattle.wt_tile.specs.Matching.{matches, same_axis}
+use Rattle.wt_refute.specs.declared.tree.Refuted.{Refuted}
+use Rattle.wt_step.specs.declared.raw.RawStep.{RawStep}
+use Rattle.wt_morphism.specs.declared.image.Image.{Image}
+use Rattle.wt_morphism.specs.declared.image.Image.TheVariants.{One as Single, Two as Double}
+use Rattle.wt_grid.specs.Order.{has, find}
+use Rattle.wt_grid.specs.First.{count_from}
+
+-- Pairs of tiles, by the first and then by the second.
+
+-- p comes before the pair of a and b
+abbrev pub pair_before : ℕ → ℕ → ℕ × ℕ → Bool
+pair_before a b p = nat_lt p.0 a || (nat_eq p.0 a && nat_lt p.1 b)
+
+abbrev pub is_pair : ℕ → ℕ → ℕ × ℕ → Bool
+is_pair a b p = nat_eq p.0 a && nat_eq p.1 b
+
+abbrev pub pairs_follow : ℕ × ℕ → ℕ × ℕ → Bool
+pairs_follow p q = pair_before q.0 q.1 p
+
+abbrev pub pair_fits : ℕ → ℕ × ℕ → Bool
+pair_fits n p = nat_lt p.0 n && nat_lt p.1 n
+
+-- Refutations, by radius, axis, first and second tile.
+
+abbrev pub axis_number : Axis → ℕ
+axis_number One = 1
+axis_number Two = 2
+
+-- r comes before the entries of a radius, an axis and a pair
+abbrev pub entry_before : ℕ → Axis → ℕ → ℕ → Refuted → Bool
+entry_before radius axis a b r =
+    nat_lt r.radius radius
+    || (nat_eq r.radius radius && (nat_lt (axis_number r.axis) (axis_number axis)
+    || (nat_eq (axis_number r.axis) (axis_number axis) && pair_before a b (r.a, r.b))))
+
+abbrev pub is_entry : ℕ → Axis → ℕ → ℕ → Refuted → Bool
+is_entry radius axis a b r = nat_eq r.radius radius && (nat_eq (axis_number r.axis) (axis_number axis) && is_pair a b (r.a, r.b))
+
+abbrev pub entries_follow : Refuted → Refuted → Bool
+entries_follow r t = entry_before t.radius t.axis t.a t.b r
+
+abbrev pub entry_fits : ℕ → ℕ → Refuted → Bool
+entry_fits radius n r = nat_le r.radius radius && nat_lt r.a n && nat_lt r.b n
+
+-- Images.
+
+abbrev pub image_fits : ℕ → Image → Bool
+image_fits n (Single a) = nat_lt a n
+image_fits n (Double a b) = nat_lt a n && nat_lt b n
+
+abbrev pub same_image : Image → Image → Bool
+same_image (Single a) (Single b) = nat_eq a b
+same_image (Single a) (Double c d) = false
+same_image (Double a b) (Single c) = false
+same_image (Double a b) (Double c d) = nat_eq a c && nat_eq b d
+
+abbrev pub first_tile : Image → ℕ
+first_tile (Single a) = a
+first_tile (Double a b) = a
+
+abbrev pub last_tile : Image → ℕ
+last_tile (Single a) = a
+last_tile (Double a b) = b
+
+-- images of one length match piece by piece
+abbrev pub pieces_match : List Tile → Axis → Image → Image → Bool
+pieces_match ts axis (Single a) (Single b) = matches ts axis a b
+pieces_match ts axis (Single a) (Double c d) = false
+pieces_match ts axis (Double a b) (Single c) = false
+pieces_match ts axis (Double a b) (Double c d) = matches ts axis a c && matches ts axis b d
+
+-- What a step says.
+
+abbrev pub allowed : RawStep → Axis → List (ℕ × ℕ)
+allowed s One = s.allowed1
+allowed s Two = s.allowed2
+
+abbrev pub allows : RawStep → Axis → ℕ → ℕ → Bool
+allows s axis a b = has (is_pair a b) (allowed s axis)
+
+abbrev pub is_marker : RawStep → ℕ → Bool
+is_marker s a = has (nat_eq a) s.markers
+
+-- a matching pair that isn't allowed
+abbrev pub is_barred : RawStep → Axis → ℕ → ℕ → Bool
+is_barred s axis a b = matches s.fine.tiles axis a b && not (allows s axis a b)
+
+abbrev pub entry_at : RawStep → Axis → ℕ → ℕ → ℕ → Option Refuted
+entry_at s axis a b radius = find (is_entry radius axis a b) s.refuted
+
+-- how often the refutations name a pair
+abbrev pub times : RawStep → Axis → ℕ → ℕ → ℕ
+times s axis a b = count_from (entry_at s axis a b) 0 (s.radius + 1)
+
+abbrev pub joined : Side → Bool → Bool → Bool
+joined After m n = not m && n
+joined Before m n = m && not n
+
+-- these two stand for one coarse tile, where they are an allowed pair of the axis
+abbrev pub is_block : RawStep → ℕ → ℕ → Bool
+is_block s a b = joined s.side (is_marker s a) (is_marker s b)
+
+-- this pair makes the tile u an image, where u is a non-marker
+abbrev pub demands_by : Side → RawStep → ℕ → ℕ × ℕ → Bool
+demands_by After s u p = nat_eq p.0 u && not (is_marker s p.1)
+demands_by Before s u p = nat_eq p.1 u && not (is_marker s p.0)
+
+abbrev pub demands : RawStep → ℕ → ℕ × ℕ → Bool
+demands s u p = demands_by s.side s u p
+
+abbrev pub image_at : RawStep → ℕ → Image
+image_at s i = slice_index_or s.images i (Single 0)
+
+abbrev pub images_match : RawStep → Axis → Image → Image → Bool
+images_match s axis x y =
+    if same_axis axis s.axis then matches s.fine.tiles axis (last_tile x) (first_tile y)
+    else pieces_match s.fine.tiles axis x y

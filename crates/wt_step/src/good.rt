@@ -1,0 +1,75 @@
+// Good steps, owned or borrowed.
+ghost use Rattle.std.specs.Prelude.{◌≡◌, None, Some, MatchResult};
+ghost use Rattle.wt_step.specs.Faults.{step_fault as first_fault};
+
+use crate::step::step_fault;
+use crate::{RawStep, StepFault};
+use std::marker::Model;
+
+/// A good step.
+#[derive(Drop)]
+pub struct Step {
+    raw: RawStep,
+}
+
+impl Model for Step {
+    ghost use Rattle.std.specs.Prelude.{◌≡◌, None};
+    ghost use Rattle.wt_step.specs.declared.raw.RawStep.{RawStep};
+    ghost use Rattle.wt_step.specs.Faults.{step_fault};
+
+    ghost Value = { RawStep };
+
+    ghost view = { λ s. s.raw };
+
+    ghost invariant = { λ s. step_fault s.raw ≡ None };
+}
+
+/// A good step, borrowed.
+#[derive(Clone, Copy)]
+pub struct StepRef<'a> {
+    pub raw: &'a RawStep,
+    pub ghost good: { first_fault raw.now ≡ None },
+}
+
+/// Takes a good step, or tells its first failing condition.
+pub fn accept_step(raw: RawStep) -> Result<Step, (RawStep, StepFault)>
+    ensures { MatchResult result
+        (λ step. (step ≡ raw) × (first_fault raw ≡ None))
+        (λ e. (e.0 ≡ raw) × (first_fault raw ≡ Some e.1)) }
+{
+    match step_fault(&raw) {
+        None => Ok(Step { raw }),
+        Some(fault) => Err((raw, fault)),
+    }
+}
+
+impl Step {
+    pub fn view(&self) -> StepRef<'_>
+        ensures { result.raw.now ≡ self.now }
+    {
+        StepRef { raw: &self.raw }
+    }
+
+    pub fn into_raw(self) -> RawStep
+        ensures same { result ≡ self }
+        ensures good { first_fault result ≡ None }
+    {
+        self.raw
+    }
+}
+
+impl<'a> StepRef<'a> {
+    /// Borrows a step that is known to be good.
+    pub fn new(raw: &'a RawStep) -> StepRef<'a>
+        requires { first_fault raw.now ≡ None }
+        ensures { result.raw.now ≡ raw.now }
+    {
+        StepRef { raw }
+    }
+
+    pub fn raw(self) -> &'a RawStep
+        ensures { result.now ≡ self.entry.raw.now }
+    {
+        self.raw
+    }
+}

@@ -1,0 +1,134 @@
+// Lists in order and in range.
+ghost use Rattle.std.specs.Prelude.{◌≡◌, length};
+ghost use Rattle.wt_grid.specs.Order.{in_order, leads, all_of};
+ghost use Rattle.wt_step.specs.Words.{entries_follow, entry_fits as fits_entry, image_fits as fits_image, allowed as allowed_pairs};
+ghost use Rattle.wt_step.specs.Faults.{shape_fault as first_fault, markers_fit as markers_right, allowed_fit as allowed_right, refuted_fit as refuted_right, images_fit as images_right};
+
+use crate::order::{numbers_ascend, pairs_ascend};
+use crate::search::entry_before;
+use crate::{RawStep, StepFault};
+use wt_morphism::Image;
+use wt_refute::Refuted;
+use wt_tile::{Axis, set_fault};
+
+fn entry_fits(radius: u8, below: usize, entry: &Refuted) -> bool
+    ensures { result ≡ fits_entry radius below entry.now }
+{
+    entry.radius <= radius && usize::from(entry.a) < below && usize::from(entry.b) < below
+}
+
+fn entry_leads(entry: &Refuted, after: &[Refuted]) -> bool
+    ensures { result ≡ leads entries_follow entry.now after.now }
+{
+    match after {
+        [] => true,
+        [next, ..] => entry_before(next.radius, next.axis, next.a, next.b, entry),
+    }
+}
+
+fn entries_ascend(radius: u8, below: usize, entries: &[Refuted]) -> bool
+    ensures { result ≡ in_order (fits_entry radius below) entries_follow entries.now }
+{
+    let mut left = entries;
+    while let [entry, after @ ..] = left {
+        if !entry_fits(radius, below, entry) || !entry_leads(entry, after) {
+            return false;
+        }
+        left = after;
+    }
+    true
+}
+
+fn image_fits(below: usize, image: Image) -> bool
+    ensures { result ≡ fits_image below image }
+{
+    match image {
+        Image::One(a) => usize::from(a) < below,
+        Image::Two(a, b) => usize::from(a) < below && usize::from(b) < below,
+    }
+}
+
+fn all_fit(below: usize, images: &[Image]) -> bool
+    ensures { result ≡ all_of (fits_image below) images.now }
+{
+    for image in images {
+        if !image_fits(below, *image) {
+            return false;
+        }
+    }
+    true
+}
+
+/// The allowed pairs of an axis.
+pub fn allowed(raw: &RawStep, axis: Axis) -> &[(u16, u16)]
+    ensures { result.now ≡ allowed_pairs raw.now axis }
+{
+    match axis {
+        Axis::One => raw.allowed1.as_slice(),
+        Axis::Two => raw.allowed2.as_slice(),
+    }
+}
+
+fn markers_fit(raw: &RawStep) -> bool
+    ensures { result ≡ markers_right raw.now }
+{
+    let tiles = raw.fine.tiles.as_slice().len();
+    let markers = raw.markers.as_slice();
+    numbers_ascend(tiles, markers) && 0 < markers.len() && markers.len() < tiles
+}
+
+fn allowed_fit(raw: &RawStep, axis: Axis) -> bool
+    ensures { result ≡ allowed_right raw.now axis }
+{
+    pairs_ascend(raw.fine.tiles.as_slice().len(), allowed(raw, axis))
+}
+
+fn refuted_fit(raw: &RawStep) -> bool
+    ensures { result ≡ refuted_right raw.now }
+{
+    entries_ascend(
+        raw.radius,
+        raw.fine.tiles.as_slice().len(),
+        raw.refuted.as_slice(),
+    )
+}
+
+fn images_fit(raw: &RawStep) -> bool
+    ensures { result ≡ images_right raw.now }
+{
+    let images = raw.images.as_slice();
+    images.len() == raw.coarse.tiles.as_slice().len()
+        && all_fit(raw.fine.tiles.as_slice().len(), images)
+}
+
+/// The first fault of the lists.
+#[tactic(auto, unfolding(crate::specs::Faults::shape_fault))]
+pub fn shape_fault(raw: &RawStep) -> Option<StepFault>
+    ensures { result ≡ first_fault raw.now }
+{
+    if raw.radius > 4 {
+        return Some(StepFault::Radius);
+    }
+    if let Some(fault) = set_fault(&raw.fine) {
+        return Some(StepFault::Fine(fault));
+    }
+    if let Some(fault) = set_fault(&raw.coarse) {
+        return Some(StepFault::Coarse(fault));
+    }
+    if !markers_fit(raw) {
+        return Some(StepFault::Markers);
+    }
+    if !allowed_fit(raw, Axis::One) {
+        return Some(StepFault::Allowed(Axis::One));
+    }
+    if !allowed_fit(raw, Axis::Two) {
+        return Some(StepFault::Allowed(Axis::Two));
+    }
+    if !refuted_fit(raw) {
+        return Some(StepFault::RefutedList);
+    }
+    if !images_fit(raw) {
+        return Some(StepFault::Images);
+    }
+    None
+}

@@ -1,0 +1,310 @@
+// Good steps, owned or borrowed.
+ghost use Rattle.std.specs.Prelude.{◌≡◌, ◌<◌, ◌≤◌, None, Some, MatchResult, length, true};
+ghost use Rattle.wt_tile.specs.Matching.{matches};
+ghost use Rattle.wt_grid.specs.First.{first_from};
+ghost use Rattle.wt_grid.specs.Order.{first_in};
+ghost use Rattle.wt_step.specs.Words.{entry_at as entry_of, image_at as image_of};
+ghost use Rattle.wt_step.specs.Faults.{IsShaped, step_fault as first_fault, rules_fault as first_rule, shape_fault as first_shape, tree_fault_at as tree_at, trees_fault as first_tree, pair_fault as fault_of_pair, row_fault as first_of_row, pairs_fault as first_pair, marker_fault_at as marker_at, marker_fault as first_marker, image_fault_at as image_fault_of, image_fault as first_image, missing_tile_at as missing_tile_of, missing_tile as first_missing_tile, missing_pair_at as missing_pair_of, missing_pair as first_missing_pair, join_fault_at as join_at, join_row as first_of_join_row, join_fault as first_join};
+
+use crate::rules::{
+    agree, entry_at, has_image, image_at, images_match, is_barred, is_block, is_demanded,
+    is_good_image, is_marked_well, is_named_well,
+};
+use crate::shape::{allowed, shape_fault};
+use crate::{RawStep, StepFault};
+use wt_morphism::Image;
+use wt_refute::check_tree;
+use wt_tile::{Axis, SetRef, is_match};
+
+fn count_tiles(raw: &RawStep) -> u16
+    requires { IsShaped raw.now }
+    ensures value { result ≡ length raw.now.fine.tiles }
+    ensures small { result ≤ 256 }
+{
+    raw.fine.tiles.as_slice().len() as u16
+}
+
+fn count_coarse(raw: &RawStep) -> u16
+    requires { IsShaped raw.now }
+    ensures value { result ≡ length raw.now.coarse.tiles }
+    ensures small { result ≤ 256 }
+{
+    raw.coarse.tiles.as_slice().len() as u16
+}
+
+fn tree_fault_at(raw: &RawStep, axis: Axis, a: u16, b: u16, radius: u8) -> Option<StepFault>
+    requires shaped { IsShaped raw.now }
+    requires matching { matches raw.now.fine.tiles axis a b ≡ true }
+    requires small { radius ≤ 4 }
+    ensures { result ≡ tree_at raw.now axis a b radius }
+{
+    match entry_at(raw, axis, a, b, radius) {
+        None => None,
+        Some(entry) => {
+            let set = SetRef::of(&raw.fine);
+            match check_tree(set, axis, a, b, radius, raw.refuted.as_slice(), &entry.tree) {
+                Ok(()) => None,
+                Err(fault) => Some(StepFault::Node {
+                    axis,
+                    a,
+                    b,
+                    node: fault.node,
+                }),
+            }
+        }
+    }
+}
+
+#[tactic(auto, using(wt_grid::proofs::First::first_more))]
+fn trees_fault(raw: &RawStep, axis: Axis, a: u16, b: u16) -> Option<StepFault>
+    requires shaped { IsShaped raw.now }
+    requires matching { matches raw.now.fine.tiles axis a b ≡ true }
+    ensures { result ≡ first_tree raw.now axis a b }
+{
+    for radius in 0..raw.radius + 1 {
+        if let Some(fault) = tree_fault_at(raw, axis, a, b, radius) {
+            return Some(fault);
+        }
+    }
+    None
+}
+
+fn pair_fault(raw: &RawStep, axis: Axis, a: u16, b: u16) -> Option<StepFault>
+    requires { IsShaped raw.now }
+    ensures { result ≡ fault_of_pair raw.now axis a b }
+{
+    if !is_named_well(raw, axis, a, b) {
+        return Some(StepFault::Pair { axis, a, b });
+    }
+    if is_barred(raw, axis, a, b) {
+        trees_fault(raw, axis, a, b)
+    } else {
+        None
+    }
+}
+
+#[tactic(auto, using(wt_grid::proofs::First::first_more))]
+fn row_fault(raw: &RawStep, axis: Axis, a: u16) -> Option<StepFault>
+    requires { IsShaped raw.now }
+    ensures { result ≡ first_of_row raw.now axis a }
+{
+    for b in 0..count_tiles(raw) {
+        if let Some(fault) = pair_fault(raw, axis, a, b) {
+            return Some(fault);
+        }
+    }
+    None
+}
+
+/// The first pair that is neither allowed, nor refuted, nor without a match.
+#[tactic(auto, using(wt_grid::proofs::First::first_more))]
+fn pairs_fault(raw: &RawStep, axis: Axis) -> Option<StepFault>
+    requires { IsShaped raw.now }
+    ensures { result ≡ first_pair raw.now axis }
+{
+    for a in 0..count_tiles(raw) {
+        if let Some(fault) = row_fault(raw, axis, a) {
+            return Some(fault);
+        }
+    }
+    None
+}
+
+fn marker_fault_at(raw: &RawStep, axis: Axis, pair: (u16, u16)) -> Option<StepFault>
+    ensures { result ≡ marker_at raw.now axis pair }
+{
+    if is_marked_well(raw, axis, pair.0, pair.1) {
+        None
+    } else {
+        Some(StepFault::Marker {
+            axis,
+            a: pair.0,
+            b: pair.1,
+        })
+    }
+}
+
+fn marker_fault_in(raw: &RawStep, axis: Axis, pairs: &[(u16, u16)]) -> Option<StepFault>
+    ensures { result ≡ first_in (marker_at raw.now axis) pairs.now }
+{
+    for pair in pairs {
+        if let Some(fault) = marker_fault_at(raw, axis, *pair) {
+            return Some(fault);
+        }
+    }
+    None
+}
+
+fn marker_fault(raw: &RawStep, axis: Axis) -> Option<StepFault>
+    ensures { result ≡ first_marker raw.now axis }
+{
+    marker_fault_in(raw, axis, allowed(raw, axis))
+}
+
+fn image_fault_at(raw: &RawStep, i: usize) -> Option<StepFault>
+    requires shaped { IsShaped raw.now }
+    requires inside { i < length raw.now.images }
+    ensures { result ≡ image_fault_of raw.now i }
+{
+    let image = image_at(raw, i);
+    if is_good_image(raw, image) && !has_image(image, &raw.images.as_slice()[..i]) {
+        None
+    } else {
+        Some(StepFault::Image { index: i })
+    }
+}
+
+#[tactic(auto, using(wt_grid::proofs::First::first_more))]
+fn image_fault(raw: &RawStep) -> Option<StepFault>
+    requires { IsShaped raw.now }
+    ensures { result ≡ first_image raw.now }
+{
+    for i in 0..raw.images.as_slice().len() {
+        if let Some(fault) = image_fault_at(raw, i) {
+            return Some(fault);
+        }
+    }
+    None
+}
+
+fn missing_tile_at(raw: &RawStep, u: u16) -> Option<StepFault>
+    ensures { result ≡ missing_tile_of raw.now u }
+{
+    if !is_demanded(raw, u) || has_image(Image::One(u), raw.images.as_slice()) {
+        None
+    } else {
+        Some(StepFault::MissingTile { tile: u })
+    }
+}
+
+#[tactic(auto, using(wt_grid::proofs::First::first_more))]
+fn missing_tile(raw: &RawStep) -> Option<StepFault>
+    requires { IsShaped raw.now }
+    ensures { result ≡ first_missing_tile raw.now }
+{
+    for u in 0..count_tiles(raw) {
+        if let Some(fault) = missing_tile_at(raw, u) {
+            return Some(fault);
+        }
+    }
+    None
+}
+
+fn missing_pair_at(raw: &RawStep, pair: (u16, u16)) -> Option<StepFault>
+    ensures { result ≡ missing_pair_of raw.now pair }
+{
+    if !is_block(raw, pair.0, pair.1)
+        || has_image(Image::Two(pair.0, pair.1), raw.images.as_slice())
+    {
+        None
+    } else {
+        Some(StepFault::MissingPair {
+            a: pair.0,
+            b: pair.1,
+        })
+    }
+}
+
+fn missing_pair_in(raw: &RawStep, pairs: &[(u16, u16)]) -> Option<StepFault>
+    ensures { result ≡ first_in (missing_pair_of raw.now) pairs.now }
+{
+    for pair in pairs {
+        if let Some(fault) = missing_pair_at(raw, *pair) {
+            return Some(fault);
+        }
+    }
+    None
+}
+
+fn missing_pair(raw: &RawStep) -> Option<StepFault>
+    ensures { result ≡ first_missing_pair raw.now }
+{
+    missing_pair_in(raw, allowed(raw, raw.axis))
+}
+
+fn join_fault_at(raw: &RawStep, axis: Axis, i: u16, j: u16) -> Option<StepFault>
+    ensures { result ≡ join_at raw.now axis i j }
+{
+    let joined = is_match(raw.coarse.tiles.as_slice(), axis, i, j);
+    let wanted = images_match(
+        raw,
+        axis,
+        image_at(raw, usize::from(i)),
+        image_at(raw, usize::from(j)),
+    );
+    if agree(joined, wanted) {
+        None
+    } else {
+        Some(StepFault::Join { axis, a: i, b: j })
+    }
+}
+
+#[tactic(auto, using(wt_grid::proofs::First::first_more))]
+fn join_row(raw: &RawStep, axis: Axis, i: u16) -> Option<StepFault>
+    requires { IsShaped raw.now }
+    ensures { result ≡ first_of_join_row raw.now axis i }
+{
+    for j in 0..count_coarse(raw) {
+        if let Some(fault) = join_fault_at(raw, axis, i, j) {
+            return Some(fault);
+        }
+    }
+    None
+}
+
+/// The first coarse pair that matches otherwise than its images.
+#[tactic(auto, using(wt_grid::proofs::First::first_more))]
+fn join_fault(raw: &RawStep, axis: Axis) -> Option<StepFault>
+    requires { IsShaped raw.now }
+    ensures { result ≡ first_join raw.now axis }
+{
+    for i in 0..count_coarse(raw) {
+        if let Some(fault) = join_row(raw, axis, i) {
+            return Some(fault);
+        }
+    }
+    None
+}
+
+#[tactic(auto, unfolding(crate::specs::Faults::rules_fault))]
+fn rules_fault(raw: &RawStep) -> Option<StepFault>
+    requires { IsShaped raw.now }
+    ensures { result ≡ first_rule raw.now }
+{
+    if let Some(fault) = pairs_fault(raw, Axis::One) {
+        return Some(fault);
+    }
+    if let Some(fault) = pairs_fault(raw, Axis::Two) {
+        return Some(fault);
+    }
+    if let Some(fault) = marker_fault(raw, Axis::One) {
+        return Some(fault);
+    }
+    if let Some(fault) = marker_fault(raw, Axis::Two) {
+        return Some(fault);
+    }
+    if let Some(fault) = image_fault(raw) {
+        return Some(fault);
+    }
+    if let Some(fault) = missing_tile(raw) {
+        return Some(fault);
+    }
+    if let Some(fault) = missing_pair(raw) {
+        return Some(fault);
+    }
+    if let Some(fault) = join_fault(raw, Axis::One) {
+        return Some(fault);
+    }
+    join_fault(raw, Axis::Two)
+}
+
+/// The first failing condition.
+#[tactic(auto, unfolding(crate::specs::Faults::step_fault))]
+pub fn step_fault(raw: &RawStep) -> Option<StepFault>
+    ensures { result ≡ first_fault raw.now }
+{
+    match shape_fault(raw) {
+        Some(fault) => Some(fault),
+        None => rules_fault(raw),
+    }
+}

@@ -1,0 +1,41 @@
+-- Whether tiles match.
+use Rattle.std.specs.Prelude.{ℕ, Bool, true, false, nat_eq, List, slice_index_or}
+use Rattle.wt_tile.specs.declared.tile.Tile.{Tile}
+use Rattle.wt_tile.specs.declared.tile.Axis.{Axis}
+use Rattle.wt_tile.specs.declared.tile.Axis.TheVariants.{One, Two}
+use Rattle.wt_grid.specs.Grid.{Axis as GridAxis, one as first_axis, two as second_axis}
+
+abbrev pub blank : Tile
+blank = record { east = 0; north = 0; west = 0; south = 0 }
+
+abbrev pub tile_at : List Tile → ℕ → Tile
+tile_at ts a = slice_index_or ts a blank
+
+-- b may stand next to a along the axis: to the right of it on axis 1, above it on axis 2
+unfoldable pub matches : List Tile → Axis → ℕ → ℕ → Bool
+matches ts One a b = nat_eq (tile_at ts a).east (tile_at ts b).west
+matches ts Two a b = nat_eq (tile_at ts a).north (tile_at ts b).south
+
+abbrev pub other : Axis → Axis
+other One = Two
+other Two = One
+
+abbrev pub same_axis : Axis → Axis → Bool
+same_axis One One = true
+same_axis One Two = false
+same_axis Two One = false
+same_axis Two Two = true
+
+-- The axes of rectangles, as those of tiles.
+
+abbrev pub grid_axis : Axis → GridAxis
+grid_axis One = first_axis
+grid_axis Two = second_axis
+
+abbrev pub tile_axis : GridAxis → Axis
+tile_axis first_axis = One
+tile_axis second_axis = Two
+
+-- how the tiles of a list match along the axes of a rectangle
+abbrev pub matching : List Tile → GridAxis → ℕ → ℕ → Bool
+matching ts axis = matches ts (tile_axis axis)

@@ -1,0 +1,46 @@
+// Whether tiles match along an axis.
+ghost use Rattle.std.specs.Prelude.{◌≡◌};
+ghost use Rattle.wt_tile.specs.Matching.{tile_at as tile_of, matches, same_axis as axes_agree};
+
+use crate::{Axis, Tile};
+
+/// The tile with this number, or the blank tile.
+pub fn tile_at(tiles: &[Tile], a: u16) -> Tile
+    ensures { result ≡ tile_of tiles.now a }
+{
+    let a = usize::from(a);
+    if a < tiles.len() {
+        tiles[a]
+    } else {
+        Tile {
+            east: 0,
+            north: 0,
+            west: 0,
+            south: 0,
+        }
+    }
+}
+
+/// Whether b may follow a along the axis.
+#[tactic(auto, unfolding(crate::specs::Matching::matches))]
+pub fn is_match(tiles: &[Tile], axis: Axis, a: u16, b: u16) -> bool
+    ensures { result ≡ matches tiles.now axis a b }
+{
+    let a = tile_at(tiles, a);
+    let b = tile_at(tiles, b);
+    match axis {
+        Axis::One => a.east == b.west,
+        Axis::Two => a.north == b.south,
+    }
+}
+
+pub fn same_axis(a: Axis, b: Axis) -> bool
+    ensures { result ≡ axes_agree a b }
+{
+    match (a, b) {
+        (Axis::One, Axis::One) => true,
+        (Axis::Two, Axis::Two) => true,
+        (Axis::One, Axis::Two) => false,
+        (Axis::Two, Axis::One) => false,
+    }
+}
