@@ -13,5 +13,6 @@ pub mod Rectangles
 pub mod Runs
 pub mod Images
 pub mod ImageGrids
+pub mod Carried
 pub mod Widths
 pub mod Periods

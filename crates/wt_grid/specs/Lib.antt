@@ -5,4 +5,5 @@ pub mod Parts
 pub mod Lines
 pub mod Cuts
 pub mod Images
+pub mod Shifts
 pub mod Widths
