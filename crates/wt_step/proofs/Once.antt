@@ -1,14 +1,14 @@
 -- The refutations name each pair at most once.
-use Rattle.std.proofs.Common.{rules, arith, ◌≡◌, ◌⊎◌, ◌≤◌, ◌<◌, ◌+◌, ℕ, zero, suc, List, [], ◌∷◌, length, slice_get, Option, None, Some, is_some, if◌then◌else◌, Bool, true, false, ◌&&◌, nat_eq, refl, sym, ◌∙◌, ap, subst, inl, inr}
+use Rattle.std.proofs.Common.{arith, ◌≡◌, ◌⊎◌, ◌≤◌, ◌<◌, ◌+◌, ℕ, zero, suc, List, [], ◌∷◌, length, slice_get, Option, None, Some, is_some, if◌then◌else◌, Bool, true, refl, sym, ◌∙◌, ap, inl, inr}
 use Rattle.std.proofs.lemmas.Bool.{cases_lt}
 use Rattle.std.proofs.lemmas.Bool.Decides.{nat_tests}
 use Rattle.wt_tile.specs.declared.tile.Axis.{Axis}
 use Rattle.wt_refute.specs.declared.tree.Refuted.{Refuted}
 use Rattle.wt_grid.specs.First.{count_from}
-use Rattle.wt_grid.specs.Order.{AllAbove, IsSplit}
+use Rattle.wt_grid.specs.Order.{IsSplit}
 use Rattle.wt_grid.proofs.First.{count_none}
 use Rattle.wt_step.specs.declared.raw.RawStep.{RawStep}
-use Rattle.wt_step.specs.Words.{is_barred, entry_at, times, is_entry, entry_before}
+use Rattle.wt_step.specs.Words.{entry_at, times, is_entry, entry_before}
 use Rattle.wt_step.specs.Good.{GoodStep}
 use Rattle.wt_step.proofs.Keys.{entries_split}
 use Rattle.wt_step.proofs.Cores.{above_at, known_entry, named_barred, fits_entry, entry_itself}

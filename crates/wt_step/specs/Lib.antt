@@ -3,4 +3,5 @@ pub mod Faults
 pub mod Good
 pub mod Restrict
 pub mod Links
+pub mod Views
 pub mod Meaning

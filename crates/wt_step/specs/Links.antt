@@ -1,5 +1,5 @@
 -- Steps of either kind.
-use Rattle.std.specs.Prelude.{Option}
+use Rattle.std.specs.Prelude.{ℕ, Option}
 use Rattle.wt_tile.specs.declared.tile.TileList.{TileList}
 use Rattle.wt_step.specs.declared.raw.RawLink.{RawLink}
 use Rattle.wt_step.specs.declared.raw.RawLink.TheVariants.{Marker, Restrict}
@@ -21,3 +21,8 @@ fine_of (Restrict s) = s.fine
 abbrev pub coarse_of : RawLink → TileList
 coarse_of (Marker s) = s.coarse
 coarse_of (Restrict s) = s.coarse
+
+-- how many lines a core loses on each side
+abbrev pub radius_of : RawLink → ℕ
+radius_of (Marker s) = s.radius
+radius_of (Restrict s) = s.radius

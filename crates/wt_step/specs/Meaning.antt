@@ -1,12 +1,10 @@
 -- What a step means for rectangles.
-use Rattle.std.specs.Prelude.{ℕ, Bool, true, ◌≡◌, ◌<◌, List, map, length, slice_get, None, Some}
+use Rattle.std.specs.Prelude.{ℕ, Bool, true, ◌≡◌, ◌<◌, List, map, slice_get, None, Some}
 use Rattle.wt_tile.specs.declared.tile.Axis.{Axis}
-use Rattle.wt_tile.specs.declared.tile.Axis.TheVariants.{One, Two}
 use Rattle.wt_tile.specs.declared.tile.Side.{Side}
 use Rattle.wt_tile.specs.declared.tile.Side.TheVariants.{After, Before}
 use Rattle.wt_tile.specs.declared.tile.Tile.{Tile}
-use Rattle.wt_tile.specs.Matching.{matches, grid_axis, tile_axis, matching}
-use Rattle.wt_pattern.specs.Patterns.{IsPattern}
+use Rattle.wt_tile.specs.Matching.{matches, grid_axis, tile_axis}
 use Rattle.wt_pattern.specs.Windows.{IsEmptyWindow}
 use Rattle.wt_refute.specs.declared.tree.Refuted.{Refuted}
 use Rattle.wt_refute.specs.declared.tree.Tree.{Tree}
@@ -16,11 +14,11 @@ use Rattle.wt_morphism.specs.declared.image.Image.{Image}
 use Rattle.wt_morphism.specs.declared.image.Image.TheVariants.{One as Single, Two as Double}
 use Rattle.wt_step.specs.Words.{allows, is_marker}
 use Rattle.wt_grid.specs.Lines.{Piece, one, two, IsImage}
-use Rattle.wt_grid.specs.Grid.{Grid, IsGrid, lines}
-use Rattle.wt_grid.specs.Grid.{Axis as GridAxis, one as first_axis, two as second_axis}
+use Rattle.wt_grid.specs.Grid.{Grid, lines}
+use Rattle.wt_grid.specs.Grid.{Axis as GridAxis}
 use Rattle.wt_grid.specs.Cuts.{cut, after, before}
 use Rattle.wt_grid.specs.Cuts.{Side as LineSide}
-use Rattle.wt_grid.specs.Parts.{core, AllBelow, IsValid, IsWindow}
+use Rattle.wt_grid.specs.Parts.{core}
 
 abbrev pub line_side : Side → LineSide
 line_side After = after

@@ -1,6 +1,5 @@
 -- Restrict steps: some tiles are kept, and the others stand in no core of the radius.
-use Rattle.std.specs.Prelude.{ℕ, zero, suc, ◌+◌, List, [], ◌∷◌, length, map, slice_index, Option, None, Some, Bool, ◌&&◌, not, nat_eq, nat_le, if◌then◌else◌, option_map}
-use Rattle.std.specs.Str.{bytes_eq}
+use Rattle.std.specs.Prelude.{ℕ, ◌≡◌, ◌<◌, ◌≤◌, true, length, slice_index, Option, None, Bool, ◌&&◌, not, nat_eq, nat_lt, nat_le, option_map}
 use Rattle.wt_tile.specs.declared.tile.Axis.{Axis}
 use Rattle.wt_tile.specs.declared.tile.Axis.TheVariants.{One, Two}
 use Rattle.wt_tile.specs.Sets.{set_fault}
@@ -14,33 +13,56 @@ use Rattle.wt_grid.specs.First.{or_else, first_from}
 use Rattle.wt_grid.specs.Order.{in_order, has, first_in, is_below, follows, agree}
 use Rattle.wt_step.specs.Faults.{unless}
 
--- the kept tiles ascend, are fine tiles, and are as many as the coarse tiles
+-- The kept tiles ascend, are fine tiles, and are as many as the coarse tiles.
+
 abbrev pub kept_fit : RawRestrict → Bool
 kept_fit s = in_order (is_below (length s.fine.tiles)) follows s.kept && nat_eq (length s.kept) (length s.coarse.tiles)
 
--- those of the numbers i, i + 1, .. that stand in no list of kept ones
-abbrev pub others : List ℕ → ℕ → ℕ → List ℕ
-others kept i zero = []
-others kept i (suc n) = if has (nat_eq i) kept then others kept (i + 1) n else i ∷ others kept (i + 1) n
+abbrev pub is_kept : RawRestrict → ℕ → Bool
+is_kept s t = has (nat_eq t) s.kept
 
--- the lost tiles are exactly the other fine tiles, ascending
+-- The lost tiles are exactly the other fine tiles, ascending.
+
+abbrev pub lost_below : ℕ → Lost → Bool
+lost_below n l = nat_lt l.tile n
+
+abbrev pub losses_follow : Lost → Lost → Bool
+losses_follow l m = nat_lt l.tile m.tile
+
+abbrev pub loses : ℕ → Lost → Bool
+loses t l = nat_eq t l.tile
+
+abbrev pub is_lost : RawRestrict → ℕ → Bool
+is_lost s t = has (loses t) s.lost
+
 abbrev pub lost_fit : RawRestrict → Bool
-lost_fit s = bytes_eq (map (λ l. l.tile) s.lost) (others s.kept 0 (length s.fine.tiles))
+lost_fit s = in_order (lost_below (length s.fine.tiles)) losses_follow s.lost
+
+-- a tile is lost where it isn't kept
+abbrev pub sorted_fault_at : RawRestrict → ℕ → Option StepFault
+sorted_fault_at s t = unless (agree (is_lost s t) (not (is_kept s t))) LostList
+
+abbrev pub sorted_fault : RawRestrict → Option StepFault
+sorted_fault s = first_from (sorted_fault_at s) 0 (length s.fine.tiles)
+
+-- The tree of each lost tile refutes its window.
 
 abbrev pub lost_fault_at : RawRestrict → Lost → Option StepFault
 lost_fault_at s l = option_map (LostNode l.tile) (tile_tree_fault s.fine.tiles l.tile s.radius l.tree)
 
--- the first lost tile whose tree doesn't refute its window
 abbrev pub lost_fault : RawRestrict → Option StepFault
 lost_fault s = first_in (lost_fault_at s) s.lost
 
--- the fine tile that a coarse tile stands for
+-- Coarse tiles match as the fine tiles that they stand for.
+
 abbrev pub kept_at : RawRestrict → ℕ → ℕ
 kept_at s i = slice_index s.kept i
 
--- coarse tiles match as the fine tiles that they stand for
+abbrev pub kept_match : RawRestrict → Axis → ℕ → ℕ → Bool
+kept_match s axis i j = matches s.fine.tiles axis (kept_at s i) (kept_at s j)
+
 abbrev pub kept_join_at : RawRestrict → Axis → ℕ → ℕ → Option StepFault
-kept_join_at s axis i j = unless (agree (matches s.coarse.tiles axis i j) (matches s.fine.tiles axis (kept_at s i) (kept_at s j))) (Join axis i j)
+kept_join_at s axis i j = unless (agree (matches s.coarse.tiles axis i j) (kept_match s axis i j)) (Join axis i j)
 
 abbrev pub kept_join_row : RawRestrict → Axis → ℕ → Option StepFault
 kept_join_row s axis i = first_from (kept_join_at s axis i) 0 (length s.coarse.tiles)
@@ -48,14 +70,32 @@ kept_join_row s axis i = first_from (kept_join_at s axis i) 0 (length s.coarse.t
 abbrev pub kept_join_fault : RawRestrict → Axis → Option StepFault
 kept_join_fault s axis = first_from (kept_join_row s axis) 0 (length s.coarse.tiles)
 
--- the first failing condition of a restrict step
-unfoldable pub restrict_fault : RawRestrict → Option StepFault
-restrict_fault s =
+unfoldable pub sorting_fault : RawRestrict → Option StepFault
+sorting_fault s =
     or_else (unless (nat_le s.radius 4) Radius)
     (or_else (option_map Fine (set_fault s.fine))
     (or_else (option_map Coarse (set_fault s.coarse))
     (or_else (unless (kept_fit s) Kept)
     (or_else (unless (lost_fit s) LostList)
-    (or_else (lost_fault s)
+    (sorted_fault s)))))
+
+-- the first fault of its trees and of its coarse set
+abbrev pub use_fault : RawRestrict → Option StepFault
+use_fault s =
+    or_else (lost_fault s)
     (or_else (kept_join_fault s One)
-    (kept_join_fault s Two)))))))
+    (kept_join_fault s Two))
+
+-- the first failing condition of a restrict step, in the order of the variants
+unfoldable pub restrict_fault : RawRestrict → Option StepFault
+restrict_fault s =
+    or_else (sorting_fault s) (use_fault s)
+
+-- what the tests of trees stand on: each fine tile is either kept or lost
+pub record IsSorted (s : RawRestrict) : Type 0 where
+  pub radius : s.radius ≤ 4
+  pub fine : set_fault s.fine ≡ None
+  pub coarse : set_fault s.coarse ≡ None
+  pub kept : kept_fit s ≡ true
+  pub lost : lost_fit s ≡ true
+  pub sorted : (t : ℕ) → t < length s.fine.tiles → is_lost s t ≡ not (is_kept s t)

@@ -16,8 +16,12 @@ impl Model for Step {
     ghost use Rattle.std.specs.Prelude.{◌≡◌, None};
     ghost use Rattle.wt_step.specs.declared.raw.RawStep.{RawStep};
     ghost use Rattle.wt_step.specs.Faults.{step_fault};
+    ghost use Rattle.wt_refute.specs.contracts.tree.Tree as e;
+    ghost use Rattle.std.specs.Coded.{codes};
 
     ghost Value = { RawStep };
+
+    ghost coded = { Prim.hlevel (codes, e.the_row.coded) };
 
     ghost view = { λ s. s.raw };
 

@@ -1,16 +1,21 @@
 //! Steps of desubstitution.
 #![tactic(auto)]
 
+mod borrowed;
 mod good;
 mod law;
+mod link;
 mod order;
 mod raw;
+mod restrict;
 mod rules;
 mod search;
 mod shape;
 mod step;
 
+pub use borrowed::{LinkRef, RestrictRef};
 pub use good::{Step, StepRef, accept_step};
 pub use law::{desubstitutes, good_steps};
+pub use link::{Link, accept_link, link_fault};
 pub use raw::{Lost, RawLink, RawRestrict, RawStep, StepFault};
 pub use step::step_fault;

@@ -1,6 +1,5 @@
 // Good steps, owned or borrowed.
-ghost use Rattle.std.specs.Prelude.{◌≡◌, ◌<◌, ◌≤◌, None, Some, MatchResult, length, true};
-ghost use Rattle.wt_tile.specs.Matching.{matches};
+ghost use Rattle.std.specs.Prelude.{◌≡◌, ◌<◌, ◌≤◌, None, Some, length};
 ghost use Rattle.wt_grid.specs.First.{first_from};
 ghost use Rattle.wt_grid.specs.Order.{first_in};
 ghost use Rattle.wt_step.specs.Words.{entry_at as entry_of, image_at as image_of};
@@ -34,7 +33,8 @@ fn count_coarse(raw: &RawStep) -> u16
 
 fn tree_fault_at(raw: &RawStep, axis: Axis, a: u16, b: u16, radius: u8) -> Option<StepFault>
     requires shaped { IsShaped raw.now }
-    requires matching { matches raw.now.fine.tiles axis a b ≡ true }
+    requires first { a < length raw.now.fine.tiles }
+    requires second { b < length raw.now.fine.tiles }
     requires small { radius ≤ 4 }
     ensures { result ≡ tree_at raw.now axis a b radius }
 {
@@ -58,7 +58,8 @@ fn tree_fault_at(raw: &RawStep, axis: Axis, a: u16, b: u16, radius: u8) -> Optio
 #[tactic(auto, using(wt_grid::proofs::First::first_more))]
 fn trees_fault(raw: &RawStep, axis: Axis, a: u16, b: u16) -> Option<StepFault>
     requires shaped { IsShaped raw.now }
-    requires matching { matches raw.now.fine.tiles axis a b ≡ true }
+    requires first { a < length raw.now.fine.tiles }
+    requires second { b < length raw.now.fine.tiles }
     ensures { result ≡ first_tree raw.now axis a b }
 {
     for radius in 0..raw.radius + 1 {
@@ -70,7 +71,9 @@ fn trees_fault(raw: &RawStep, axis: Axis, a: u16, b: u16) -> Option<StepFault>
 }
 
 fn pair_fault(raw: &RawStep, axis: Axis, a: u16, b: u16) -> Option<StepFault>
-    requires { IsShaped raw.now }
+    requires shaped { IsShaped raw.now }
+    requires first { a < length raw.now.fine.tiles }
+    requires second { b < length raw.now.fine.tiles }
     ensures { result ≡ fault_of_pair raw.now axis a b }
 {
     if !is_named_well(raw, axis, a, b) {
@@ -85,7 +88,8 @@ fn pair_fault(raw: &RawStep, axis: Axis, a: u16, b: u16) -> Option<StepFault>
 
 #[tactic(auto, using(wt_grid::proofs::First::first_more))]
 fn row_fault(raw: &RawStep, axis: Axis, a: u16) -> Option<StepFault>
-    requires { IsShaped raw.now }
+    requires shaped { IsShaped raw.now }
+    requires first { a < length raw.now.fine.tiles }
     ensures { result ≡ first_of_row raw.now axis a }
 {
     for b in 0..count_tiles(raw) {

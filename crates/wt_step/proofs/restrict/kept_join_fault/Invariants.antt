@@ -1,0 +1,7 @@
+use Rattle.std.proofs.Common.{◌≡◌, ◌-◌, length}
+use Rattle.wt_grid.specs.First.{first_from}
+use Rattle.wt_step.specs.Restrict.{kept_join_row, kept_join_fault}
+use Rattle.wt_step.proofs.restrict.kept_join_fault.Given as goal
+
+abbrev pub invariant-loop-i : goal.invariant-loop-i
+invariant-loop-i l = first_from (kept_join_row l.raw l.axis) l.i (length l.raw.coarse.tiles - l.i) ≡ kept_join_fault l.raw l.axis

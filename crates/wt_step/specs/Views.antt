@@ -1,0 +1,9 @@
+-- What a borrowed step borrows.
+use Rattle.wt_step.specs.declared.raw.RawLink.{RawLink}
+use Rattle.wt_step.specs.declared.raw.RawLink.TheVariants.{Marker, Restrict}
+use Rattle.wt_step.specs.declared.borrowed.LinkRef.{LinkRef}
+use Rattle.wt_step.specs.declared.borrowed.LinkRef.TheVariants.{Marker as MarkerRef, Restrict as KeepingRef}
+
+abbrev pub link_of : LinkRef → RawLink
+link_of (MarkerRef s) = Marker s.raw.now
+link_of (KeepingRef s) = Restrict s.raw.now

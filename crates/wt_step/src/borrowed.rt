@@ -1,0 +1,27 @@
+// Good steps, borrowed.
+ghost use Rattle.std.specs.Prelude.{◌≡◌, None};
+ghost use Rattle.wt_step.specs.Restrict.{restrict_fault as first_fault};
+
+use crate::{RawRestrict, StepRef};
+
+/// A good restrict step, borrowed.
+#[derive(Clone, Copy)]
+pub struct RestrictRef<'a> {
+    pub raw: &'a RawRestrict,
+    pub ghost good: { first_fault raw.now ≡ None },
+}
+
+/// A good step of either kind, borrowed.
+#[derive(Clone, Copy)]
+pub enum LinkRef<'a> {
+    Marker(StepRef<'a>),
+    Restrict(RestrictRef<'a>),
+}
+
+impl<'a> RestrictRef<'a> {
+    pub fn raw(self) -> &'a RawRestrict
+        ensures { result.now ≡ self.entry.raw.now }
+    {
+        self.raw
+    }
+}
