@@ -11,34 +11,29 @@ use Rattle.wt_tile.specs.declared.tile.Axis.TheVariants.{One, Two}
 use Rattle.wt_refute.specs.declared.tree.Refuted.{Refuted}
 use Rattle.wt_refute.specs.Refutation.{Refutation, Branches, branch, cite, no_more, more, tiles_in}
 use Rattle.wt_refute.specs.View.{refutation}
-use Rattle.wt_refute.specs.Field.{matches, window_shape, beside, IsValid, IsWindow, IsEmptyWindow}
-use Rattle.wt_refute.specs.Placed.{Placed, place, window_of, tile_window, next_cell, tile_in, right_of, above, left_of, below, may_join, fits, passing}
+use Rattle.wt_tile.specs.Matching.{matches, same_axis}
+use Rattle.wt_grid.specs.Order.{has}
+use Rattle.wt_refute.proofs.Filling.{beside, IsFilling, FillsWindow, IsUnfilled, filled_part}
+use Rattle.wt_refute.specs.Placed.{Placed, window_shape, place, window_of, tile_window, next_cell, tile_in, right_of, above, left_of, below, may_join, fits, passing}
 use Rattle.wt_refute.proofs.Shape.{middle_within, next_within}
-use Rattle.wt_refute.specs.Refutes.{same_axis, lies_inside, serves, any_serves, next_placed, is_known, is_cited, Refutes, EachRefutes, AreEmptyBelow, AllRefute, AreEmpty}
+use Rattle.wt_refute.specs.Refutes.{lies_inside, serves, next_placed, is_known, is_cited, Refutes, EachRefutes}
 
--- the part of a valid rectangle from (x, y) on
-pub part_valid : (ts : List Tile) (w h : ℕ) (f : ℕ → ℕ → ℕ) (x y w' h' : ℕ) → IsValid ts w h f → x + w' ≤ w → y + h' ≤ h → IsValid ts w' h' (λ i j. f (x + i) (y + j))
-part_valid ts w h f x y w' h' v lx ly = record {
-  tiles = λ i j li lj. v.tiles (x + i) (y + j) (omega arith) (omega arith);
-  right = λ i j li lj.
-      let e : x + (i + 1) ≡ x + i + 1 = omega arith in
-      rw e (v.right (x + i) (y + j) (omega arith) (omega arith));
-  up = λ i j li lj.
-      let e : y + (j + 1) ≡ y + j + 1 = omega arith in
-      rw e (v.up (x + i) (y + j) (omega arith) (omega arith));
-}
+-- the windows of the entries of lower radius are unfilled
+abbrev pub AreUnfilledBelow : List Tile → ℕ → List Refuted → Type 0
+AreUnfilledBelow ts radius [] = Unit {0}
+AreUnfilledBelow ts radius (entry ∷ entries) = (entry.radius < radius → IsUnfilled ts entry.axis entry.a entry.b entry.radius) × AreUnfilledBelow ts radius entries
 
 beside_part : (axis : Axis) (f : ℕ → ℕ → ℕ) (x y i j : ℕ) → beside axis (λ i j. f (x + i) (y + j)) i j ≡ beside axis f (x + i) (y + j)
 beside_part One f x y i j = let e : x + (i + 1) ≡ x + i + 1 = omega arith in ap (λ (k : ℕ). f k (y + j)) e
 beside_part Two f x y i j = let e : y + (j + 1) ≡ y + j + 1 = omega arith in ap (f (x + i)) e
 
 -- A domino whose window is empty stands at no place of a valid rectangle with the window inside.
-pub not_in_core : (ts : List Tile) (axis : Axis) (a b radius w h : ℕ) (f : ℕ → ℕ → ℕ) (x y : ℕ) → IsEmptyWindow ts axis a b radius → IsValid ts w h f
+pub not_in_core : (ts : List Tile) (axis : Axis) (a b radius w h : ℕ) (f : ℕ → ℕ → ℕ) (x y : ℕ) → IsUnfilled ts axis a b radius → IsFilling ts w h f
     → x + (window_shape axis radius).0 ≤ w → y + (window_shape axis radius).1 ≤ h
     → f (x + radius) (y + radius) ≡ a → beside axis f (x + radius) (y + radius) ≡ b → ⊥
 not_in_core ts axis a b radius w h f x y empty v lx ly first second =
     empty (λ i j. f (x + i) (y + j)) (record {
-      valid = part_valid ts w h f x y (window_shape axis radius).0 (window_shape axis radius).1 v lx ly;
+      valid = filled_part ts w h f x y (window_shape axis radius).0 (window_shape axis radius).1 v lx ly;
       first = first;
       second = beside_part axis f x y radius radius ∙ second;
     })
@@ -125,7 +120,7 @@ module _ (ts : List Tile) (f : ℕ → ℕ → ℕ) (p : Placed) (s : Stands f p
   joined axis t (Some u) h = h u refl
 
   -- the tile of a valid pattern fits
-  tile_fits : IsValid ts p.width p.height f → (c : ℕ) → c < length p.cells → fits ts p c (f (c % p.width) (c / p.width)) ≡ true
+  tile_fits : IsFilling ts p.width p.height f → (c : ℕ) → c < length p.cells → fits ts p c (f (c % p.width) (c / p.width)) ≡ true
   tile_fits v c lt =
       let x = c % p.width in
       let y = c / p.width in
@@ -195,18 +190,18 @@ one_axis Two One e = absurd cc
 one_axis Two Two e = refl
 
 known_both : (radius : ℕ) (known : List Refuted) (p : Placed) (cell : ℕ) (axis : Axis) (a b : Option ℕ) → is_known radius known p cell axis a b ≡ true
-    → (i : ℕ) × (j : ℕ) × (a ≡ Some i) × (b ≡ Some j) × (any_serves radius p cell axis i j known ≡ true)
+    → (i : ℕ) × (j : ℕ) × (a ≡ Some i) × (b ≡ Some j) × (has (serves radius p.width p.height cell axis i j) known ≡ true)
 known_both radius known p cell axis None b e = absurd cc
 known_both radius known p cell axis (Some i) None e = absurd cc
 known_both radius known p cell axis (Some i) (Some j) e = (i, j, refl, refl, e)
 
-same_empty : (ts : List Tile) (axis axis' : Axis) (a a' b b' radius : ℕ) → axis ≡ axis' → a ≡ a' → b ≡ b' → IsEmptyWindow ts axis a b radius → IsEmptyWindow ts axis' a' b' radius
+same_empty : (ts : List Tile) (axis axis' : Axis) (a a' b b' radius : ℕ) → axis ≡ axis' → a ≡ a' → b ≡ b' → IsUnfilled ts axis a b radius → IsUnfilled ts axis' a' b' radius
 same_empty ts axis axis' a a' b b' radius ex ea eb n =
-    subst (λ (k : Axis). IsEmptyWindow ts k a' b' radius) ex (subst (λ (k : ℕ). IsEmptyWindow ts axis k b' radius) ea (subst (λ (k : ℕ). IsEmptyWindow ts axis a k radius) eb n))
+    subst (λ (k : Axis). IsUnfilled ts k a' b' radius) ex (subst (λ (k : ℕ). IsUnfilled ts axis k b' radius) ea (subst (λ (k : ℕ). IsUnfilled ts axis a k radius) eb n))
 
 -- an entry that serves has an empty window inside
-empty_inside : (ts : List Tile) (radius : ℕ) (p : Placed) (cell : ℕ) (axis : Axis) (a b : ℕ) (entries : List Refuted) → any_serves radius p cell axis a b entries ≡ true → AreEmptyBelow ts radius entries
-    → (inner : ℕ) × IsEmptyWindow ts axis a b inner × (lies_inside p.width p.height cell axis inner ≡ true)
+empty_inside : (ts : List Tile) (radius : ℕ) (p : Placed) (cell : ℕ) (axis : Axis) (a b : ℕ) (entries : List Refuted) → has (serves radius p.width p.height cell axis a b) entries ≡ true → AreUnfilledBelow ts radius entries
+    → (inner : ℕ) × IsUnfilled ts axis a b inner × (lies_inside p.width p.height cell axis inner ≡ true)
 empty_inside ts radius p cell axis a b [] e n = absurd cc
 empty_inside ts radius p cell axis a b (entry ∷ entries) e n = elim (cases_Bool (serves radius p.width p.height cell axis a b entry)) [
   | inl served ↦
@@ -223,7 +218,7 @@ next_beside : (ts : List Tile) (f : ℕ → ℕ → ℕ) (p : Placed) → Stands
 next_beside ts f p s One c u e = (right_at ts f p s c u e).1
 next_beside ts f p s Two c u e = (above_at ts f p s c u e).1
 
-not_cited : (ts : List Tile) (radius : ℕ) (known : List Refuted) → AreEmptyBelow ts radius known → (f : ℕ → ℕ → ℕ) (p : Placed) → Stands f p → IsValid ts p.width p.height f
+not_cited : (ts : List Tile) (radius : ℕ) (known : List Refuted) → AreUnfilledBelow ts radius known → (f : ℕ → ℕ → ℕ) (p : Placed) → Stands f p → IsFilling ts p.width p.height f
     → (cell : ℕ) (axis : Axis) → is_cited radius known p cell axis ≡ true → ⊥
 not_cited ts radius known empty f p s v cell axis e =
     let k = known_both radius known p cell axis (tile_in p cell) (next_placed p cell axis) e in
@@ -239,9 +234,9 @@ not_cited ts radius known empty f p s v cell axis e =
     (rw ex (rw ey (s.holds cell k.0 k.2)))
     (rw ex (rw ey (next_beside ts f p s axis cell k.1 k.3)))
 
-module _ (ts : List Tile) (radius : ℕ) (known : List Refuted) (empty : AreEmptyBelow ts radius known) (f : ℕ → ℕ → ℕ) where
+module _ (ts : List Tile) (radius : ℕ) (known : List Refuted) (empty : AreUnfilledBelow ts radius known) (f : ℕ → ℕ → ℕ) where
   mutual
-    pub none_stands : (tree : Refutation) (p : Placed) → Stands f p → IsValid ts p.width p.height f → Refutes ts radius known p tree → ⊥
+    pub none_stands : (tree : Refutation) (p : Placed) → Stands f p → IsFilling ts p.width p.height f → Refutes ts radius known p tree → ⊥
     none_stands (cite cell axis) p s v r = not_cited ts radius known empty f p s v cell axis r
     none_stands (branch cell bs) p s v r =
         let t = f (cell % p.width) (cell / p.width) in
@@ -252,7 +247,7 @@ module _ (ts : List Tile) (radius : ℕ) (known : List Refuted) (empty : AreEmpt
         let among = passes (fits ts p cell) 0 (length ts) t (omega arith) (omega arith) (tile_fits ts f p s v cell lt) in
         none_among bs p cell t (stands_more f p s cell lt) v (subst (Among t) (sym r.1) among) r.2
 
-    none_among : (bs : Branches) (p : Placed) (cell t : ℕ) → Stands f (place p cell t) → IsValid ts p.width p.height f → Among t (tiles_in bs) → EachRefutes ts radius known p cell bs → ⊥
+    none_among : (bs : Branches) (p : Placed) (cell t : ℕ) → Stands f (place p cell t) → IsFilling ts p.width p.height f → Among t (tiles_in bs) → EachRefutes ts radius known p cell bs → ⊥
     none_among no_more p cell t s v a r = absurd a
     none_among (more tile tree bs) p cell t s v a r = elim a [
       | inl same ↦ none_stands tree (place p cell tile) (subst (λ (k : ℕ). Stands f (place p cell k)) same s) v r.0
@@ -307,7 +302,7 @@ next_place Two radius f =
     let ey : (radius * w + radius + w) / w ≡ radius + 1 = at.1 ∙ ap (λ (k : ℕ). k + 1) m.1 in
     rw ex (rw ey)
 
-window_stands : (ts : List Tile) (axis : Axis) (a b radius : ℕ) (f : ℕ → ℕ → ℕ) → IsWindow ts axis a b radius f → Stands f (window_of axis a b radius)
+window_stands : (ts : List Tile) (axis : Axis) (a b radius : ℕ) (f : ℕ → ℕ → ℕ) → FillsWindow ts axis a b radius f → Stands f (window_of axis a b radius)
 window_stands ts axis a b radius f i =
     let w = (window_shape axis radius).0 in
     let h = (window_shape axis radius).1 in
@@ -327,7 +322,7 @@ window_stands ts axis a b radius f i =
     }
 
 pub refuted_empty : (ts : List Tile) (axis : Axis) (a b radius : ℕ) (known : List Refuted) (tree : Refutation)
-    → AreEmptyBelow ts radius known → Refutes ts radius known (window_of axis a b radius) tree → IsEmptyWindow ts axis a b radius
+    → AreUnfilledBelow ts radius known → Refutes ts radius known (window_of axis a b radius) tree → IsUnfilled ts axis a b radius
 refuted_empty ts axis a b radius known tree empty r f i =
     none_stands ts radius known empty f tree (window_of axis a b radius) (window_stands ts axis a b radius f i) i.valid r
 
@@ -347,35 +342,5 @@ tile_stands ts tile radius f e =
     }
 
 pub tile_excluded : (ts : List Tile) (tile radius : ℕ) (tree : Refutation) → Refutes ts radius [] (tile_window tile radius) tree
-    → (f : ℕ → ℕ → ℕ) → IsValid ts (2 * radius + 1) (2 * radius + 1) f → f radius radius ≡ tile → ⊥
+    → (f : ℕ → ℕ → ℕ) → IsFilling ts (2 * radius + 1) (2 * radius + 1) f → f radius radius ≡ tile → ⊥
 tile_excluded ts tile radius tree r f v e = none_stands ts radius [] tt f tree (tile_window tile radius) (tile_stands ts tile radius f e) v r
-
--- fewer windows are below a lower radius
-lower : (ts : List Tile) (r s : ℕ) (entries : List Refuted) → r ≤ s → AreEmptyBelow ts s entries → AreEmptyBelow ts r entries
-lower ts r s [] le n = tt
-lower ts r s (entry ∷ entries) le n = (λ lt. n.0 (omega arith), lower ts r s entries le n.1)
-
-one_more : (ts : List Tile) (known : List Refuted) (r : ℕ) → AreEmptyBelow ts r known → (entries : List Refuted) → AllRefute ts known entries → AreEmptyBelow ts (suc r) entries
-one_more ts known r n [] a = tt
-one_more ts known r n (entry ∷ entries) a = (
-  λ lt. refuted_empty ts entry.axis entry.a entry.b entry.radius known (refutation entry.tree) (lower ts entry.radius r known (omega arith) n) a.0,
-  one_more ts known r n entries a.1,
-)
-
-none_below : (ts : List Tile) (entries : List Refuted) → AreEmptyBelow ts 0 entries
-none_below ts [] = tt
-none_below ts (entry ∷ entries) = (λ lt. absurd (omega arith), none_below ts entries)
-
-empty_below : (ts : List Tile) (known : List Refuted) → AllRefute ts known known → (r : ℕ) → AreEmptyBelow ts r known
-empty_below ts known a zero = none_below ts known
-empty_below ts known a (suc r) = one_more ts known r (empty_below ts known a r) known a
-
-each_empty : (ts : List Tile) (known : List Refuted) → AllRefute ts known known → (entries : List Refuted) → AllRefute ts known entries → AreEmpty ts entries
-each_empty ts known a [] b = tt
-each_empty ts known a (entry ∷ entries) b = (
-  refuted_empty ts entry.axis entry.a entry.b entry.radius known (refutation entry.tree) (empty_below ts known a entry.radius) b.0,
-  each_empty ts known a entries b.1,
-)
-
-pub all_empty : (ts : List Tile) (known : List Refuted) → AllRefute ts known known → AreEmpty ts known
-all_empty ts known a = each_empty ts known a known a

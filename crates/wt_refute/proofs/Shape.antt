@@ -3,8 +3,7 @@ use Rattle.std.proofs.Common.{arith, ◌≡◌, ℕ, zero, suc, ◌+◌, ◌*◌
 use Rattle.std.proofs.lemmas.Nat.{mul-add-lt, mul-le}
 use Rattle.wt_tile.specs.declared.tile.Axis.{Axis}
 use Rattle.wt_tile.specs.declared.tile.Axis.TheVariants.{One, Two}
-use Rattle.wt_refute.specs.Field.{window_shape}
-use Rattle.wt_refute.specs.Placed.{next_cell}
+use Rattle.wt_refute.specs.Placed.{window_shape, next_cell}
 
 -- both middle places are cells of the window
 pub middle_within : (axis : Axis) (radius : ℕ) → radius * (window_shape axis radius).0 + radius < (window_shape axis radius).0 * (window_shape axis radius).1

@@ -3,9 +3,14 @@ use Rattle.std.specs.Prelude.{ℕ, zero, suc, ◌+◌, ◌-◌, ◌*◌, ◌%◌
 use Rattle.wt_tile.specs.declared.tile.Tile.{Tile}
 use Rattle.wt_tile.specs.declared.tile.Axis.{Axis}
 use Rattle.wt_tile.specs.declared.tile.Axis.TheVariants.{One, Two}
-use Rattle.wt_refute.specs.Field.{matches, window_shape}
+use Rattle.wt_tile.specs.Matching.{matches}
 
--- cell (x, y) has the number y * width + x
+-- the width and height of the window of a radius round two tiles that follow each other along the axis
+abbrev pub window_shape : Axis → ℕ → ℕ × ℕ
+window_shape One radius = (2 * radius + 2, 2 * radius + 1)
+window_shape Two radius = (2 * radius + 1, 2 * radius + 2)
+
+-- a rectangle with some of its tiles placed; cell (x, y) has the number y * width + x
 pub record Placed : Type 0 where
   pub width : ℕ
   pub height : ℕ
@@ -60,15 +65,6 @@ left_of p cell = if nat_lt 0 (cell % p.width) then tile_in p (cell - 1) else Non
 
 abbrev pub below : Placed → ℕ → Option ℕ
 below p cell = if nat_le p.width cell then tile_in p (cell - p.width) else None
-
--- none, or one of n tiles
-abbrev pub IsTile : ℕ → Option ℕ → Type 0
-IsTile n None = Unit {0}
-IsTile n (Some tile) = tile < n
-
--- each placed tile is one of n
-abbrev pub AreTiles : ℕ → List (Option ℕ) → Type 0
-AreTiles n cells = (cell : ℕ) → IsTile n (slice_index_or cells cell None)
 
 -- no mismatch, where both are placed
 abbrev pub may_join : List Tile → Axis → Option ℕ → Option ℕ → Bool

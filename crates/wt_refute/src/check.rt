@@ -3,33 +3,17 @@ ghost use Rattle.std.specs.Prelude.{◌≡◌, ℕ, ◌+◌, ◌-◌, ◌*◌, �
 ghost use Rattle.std.specs.Option.{option_map};
 ghost use Rattle.wt_refute.specs.Refutation.{node_count, tiles_in, held};
 ghost use Rattle.wt_refute.specs.View.{refutation, children_view};
-ghost use Rattle.wt_refute.specs.Field.{window_shape};
-ghost use Rattle.wt_refute.specs.Placed.{placed, window_of, tile_window, AreTiles, next_cell as cell_beside};
-ghost use Rattle.wt_refute.specs.Refutes.{same_axis as one_axis, lies_inside as is_inside, serves as it_serves, next_placed as the_next, is_cited as cited, is_branching as branching, first_wrong, tree_fault};
+ghost use Rattle.wt_refute.specs.Placed.{placed, window_shape, window_of, tile_window, next_cell as cell_beside};
+ghost use Rattle.wt_refute.specs.Refutes.{lies_inside as is_inside, serves as it_serves, next_placed as the_next, is_cited as cited, is_branching as branching, first_wrong, tree_fault, tile_tree_fault};
 
 use crate::window::{above, is_free, next_fitting, right_of, shape_of, tile_in};
 use crate::{Child, Refuted, Tree};
-use wt_tile::{Axis, SetRef, Tile};
+use wt_tile::{Axis, SetRef, Tile, same_axis};
 
-/// The first wrong node of a tree in preorder, held at the last value of usize.
+/// The first wrong node of a tree in preorder, counted from 0 at the root, held at the last value of usize.
 #[derive(Clone, Copy, Debug, PartialEq, Eq)]
 pub struct TreeFault {
     pub node: usize,
-}
-
-fn same_axis(a: Axis, b: Axis) -> bool
-    ensures { result ≡ one_axis a b }
-{
-    match a {
-        Axis::One => match b {
-            Axis::One => true,
-            Axis::Two => false,
-        },
-        Axis::Two => match b {
-            Axis::One => false,
-            Axis::Two => true,
-        },
-    }
 }
 
 fn lies_inside(shape: (usize, usize), cell: usize, axis: Axis, radius: u8) -> bool
@@ -76,7 +60,7 @@ fn next_placed(shape: (usize, usize), cells: &[Option<u16>], cell: usize, axis: 
     }
 }
 
-pub fn is_cited(
+fn is_cited(
     radius: u8,
     known: &[Refuted],
     shape: (usize, usize),
@@ -114,7 +98,6 @@ fn is_branching(
     requires small { shape.0 < 2 ^ 32 }
     requires low { cell < 2 ^ 32 }
     requires few { length tiles.now ≤ 65536 }
-    requires placed { AreTiles (length tiles.now) cells.now }
     ensures { result ≡ branching tiles.now (placed shape cells.now) cell (tiles_in (children_view children.now)) }
 {
     if !is_free(shape, cells, cell) {
@@ -133,16 +116,6 @@ fn is_branching(
     next_fitting(tiles, shape, cells, cell, from).is_none()
 }
 
-pub fn put(tiles: &[Tile], cells: &mut [Option<u16>], cell: usize, tile: u16)
-    requires within { cell < length cells.old }
-    requires tile { tile < length tiles.now }
-    requires placed { AreTiles (length tiles.now) cells.old }
-    ensures value { cells.new ≡ slice_set cells.old cell (Some tile) }
-    ensures placed { AreTiles (length tiles.now) cells.new }
-{
-    cells[cell] = Some(tile);
-}
-
 /// The number of nodes, or the first wrong one.
 fn walk(
     tiles: &[Tile],
@@ -155,7 +128,6 @@ fn walk(
     requires wide { 0 < shape.0 }
     requires small { shape.0 < 2 ^ 32 }
     requires few { length tiles.now ≤ 65536 }
-    requires placed { AreTiles (length tiles.now) cells.old }
     ensures same { cells.new ≡ cells.old }
     ensures judged { MatchResult result
         (λ count. (first_wrong tiles.now radius known.now (placed shape cells.old) (refutation tree.now) ≡ None) × (count ≡ held (node_count (refutation tree.now))))
@@ -176,7 +148,7 @@ fn walk(
             }
             let mut count = 1usize;
             for child in children.as_slice() {
-                put(tiles, cells, cell, child.tile);
+                cells[cell] = Some(child.tile);
                 let judged = walk(tiles, radius, known, shape, cells, &child.tree);
                 cells[cell] = None;
                 match judged {
@@ -193,8 +165,8 @@ fn walk(
     }
 }
 
-/// Places a domino in the middle of its free window.
-pub fn place_domino(
+/// Places two tiles in the middle of their free window.
+fn place_pair(
     axis: Axis,
     a: u16,
     b: u16,
@@ -204,8 +176,7 @@ pub fn place_domino(
 )
     requires shape { shape ≡ window_shape axis radius }
     requires free { cells.old ≡ replicate (shape.0 * shape.1) None }
-    ensures value { placed shape cells.new ≡ window_of axis a b radius }
-    ensures tiles { (n : ℕ) → a < n → b < n → AreTiles n cells.new }
+    ensures { placed shape cells.new ≡ window_of axis a b radius }
 {
     let middle = usize::from(radius) * shape.0 + usize::from(radius);
     cells[middle] = Some(a);
@@ -223,14 +194,16 @@ fn next_cell(axis: Axis, width: usize, cell: usize) -> usize
     }
 }
 
-pub fn free_cells() -> [Option<u16>; 90]
+fn free_cells() -> [Option<u16>; 90]
     ensures { result ≡ replicate 90 None }
 {
     [None; 90]
 }
 
-/// Whether the tree refutes the window of a domino, with known refutations of lower radius.
-#[tactic(auto, unfolding(crate::specs::Refutes::tree_fault), using(wt_tile::proofs::Sizes::few_tiles))]
+/// Judges a tree for the window of radius `radius` round a and b, b following a along the axis, with these
+/// known entries: the first node, in preorder from 0, that names a wrong cell, has other tiles than those
+/// that fit, or cites what no known entry of lower radius says. Takes no memory.
+#[tactic(auto, using(wt_tile::proofs::Sizes::few_tiles))]
 pub fn check_tree(
     set: SetRef<'_>,
     axis: Axis,
@@ -240,19 +213,17 @@ pub fn check_tree(
     known: &[Refuted],
     tree: &Tree,
 ) -> Result<(), TreeFault>
-    requires radius { radius ≤ 4 }
-    requires first { a < length set.list.now.tiles }
-    requires second { b < length set.list.now.tiles }
+    requires { radius ≤ 4 }
     ensures { MatchResult result
         (λ _. tree_fault set.entry.list.now.tiles axis a b radius known.now tree.now ≡ None)
         (λ fault. tree_fault set.entry.list.now.tiles axis a b radius known.now tree.now ≡ Some fault.node) }
 {
-    check_domino(set.tiles(), axis, a, b, radius, known, tree)
+    check_pair(set.tiles(), axis, a, b, radius, known, tree)
 }
 
 /// The same for the tiles of the set.
 #[tactic(auto, unfolding(crate::specs::Refutes::tree_fault))]
-fn check_domino(
+fn check_pair(
     tiles: &[Tile],
     axis: Axis,
     a: u16,
@@ -263,8 +234,6 @@ fn check_domino(
 ) -> Result<(), TreeFault>
     requires radius { radius ≤ 4 }
     requires few { length tiles.now ≤ 256 }
-    requires a_tile { a < length tiles.now }
-    requires b_tile { b < length tiles.now }
     ensures { MatchResult result
         (λ _. tree_fault tiles.now axis a b radius known.now tree.now ≡ None)
         (λ fault. tree_fault tiles.now axis a b radius known.now tree.now ≡ Some fault.node) }
@@ -272,21 +241,38 @@ fn check_domino(
     let shape = shape_of(axis, radius);
     let mut all = free_cells();
     let cells = &mut all[..shape.0 * shape.1];
-    place_domino(axis, a, b, radius, shape, cells);
+    place_pair(axis, a, b, radius, shape, cells);
     match walk(tiles, radius, known, shape, cells, tree) {
         Ok(_) => Ok(()),
         Err(fault) => Err(fault),
     }
 }
 
-/// Whether the tree refutes the square window of a tile.
-pub fn check_tile_tree(tiles: &[Tile], tile: u16, radius: u8, tree: &Tree) -> Result<(), TreeFault>
+/// Judges a tree for the square window of radius `radius` round a tile, with no known entries: the first
+/// node, in preorder from 0, that names a wrong cell, has other tiles than those that fit, or cites.
+/// Takes no memory.
+pub fn check_tile_tree(
+    set: SetRef<'_>,
+    tile: u16,
+    radius: u8,
+    tree: &Tree,
+) -> Result<(), TreeFault>
+    requires { radius ≤ 4 }
+    ensures { MatchResult result
+        (λ _. tile_tree_fault set.entry.list.now.tiles tile radius tree.now ≡ None)
+        (λ fault. tile_tree_fault set.entry.list.now.tiles tile radius tree.now ≡ Some fault.node) }
+{
+    check_tile(set.tiles(), tile, radius, tree)
+}
+
+/// The same for the tiles of the set.
+#[tactic(auto, unfolding(crate::specs::Refutes::tile_tree_fault))]
+fn check_tile(tiles: &[Tile], tile: u16, radius: u8, tree: &Tree) -> Result<(), TreeFault>
     requires radius { radius ≤ 4 }
     requires few { length tiles.now ≤ 256 }
-    requires tile { tile < length tiles.now }
     ensures { MatchResult result
-        (λ _. first_wrong tiles.now radius [] (tile_window tile radius) (refutation tree.now) ≡ None)
-        (λ fault. option_map held (first_wrong tiles.now radius [] (tile_window tile radius) (refutation tree.now)) ≡ Some fault.node) }
+        (λ _. tile_tree_fault tiles.now tile radius tree.now ≡ None)
+        (λ fault. tile_tree_fault tiles.now tile radius tree.now ≡ Some fault.node) }
 {
     let radius_wide = usize::from(radius);
     let side = 2 * radius_wide + 1;
@@ -304,8 +290,7 @@ fn place_tile(tile: u16, radius: u8, shape: (usize, usize), cells: &mut [Option<
     requires wide { shape.0 ≡ 2 * radius + 1 }
     requires high { shape.1 ≡ 2 * radius + 1 }
     requires free { cells.old ≡ replicate (shape.0 * shape.1) None }
-    ensures value { placed shape cells.new ≡ tile_window tile radius }
-    ensures tiles { (n : ℕ) → tile < n → AreTiles n cells.new }
+    ensures { placed shape cells.new ≡ tile_window tile radius }
 {
     cells[usize::from(radius) * shape.0 + usize::from(radius)] = Some(tile);
 }

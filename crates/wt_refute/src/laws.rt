@@ -1,40 +1,46 @@
 // What trees say of windows.
-ghost use Rattle.std.specs.Prelude.{◌≡◌, ℕ, ◌+◌, ◌*◌, ◌≤◌, ◌↔◌, List, [], None};
+ghost use Rattle.std.specs.Prelude.{◌≡◌, ℕ, ◌<◌, ◌↔◌, List, [], None, Some, slice_get};
 ghost use Rattle.wt_tile.specs.declared.tile.Tile.{Tile};
 ghost use Rattle.wt_tile.specs.declared.tile.Axis.{Axis};
+ghost use Rattle.wt_grid.specs.Grid.{Grid, cell};
+ghost use Rattle.wt_grid.specs.Parts.{core};
+ghost use Rattle.wt_pattern.specs.Patterns.{IsPattern};
+ghost use Rattle.wt_pattern.specs.Windows.{IsEmptyWindow};
 ghost use Rattle.wt_refute.specs.declared.tree.Refuted.{Refuted};
-ghost use Rattle.wt_refute.specs.Refutation.{Refutation};
-ghost use Rattle.wt_refute.specs.Field.{window_shape, beside, IsValid, IsEmptyWindow};
-ghost use Rattle.wt_refute.specs.Placed.{Placed, window_of, tile_window};
-ghost use Rattle.wt_refute.specs.Refutes.{Refutes, first_wrong, AreEmptyBelow, AllRefute, AreEmpty};
+ghost use Rattle.wt_refute.specs.declared.tree.Tree.{Tree};
+ghost use Rattle.wt_refute.specs.View.{refutation};
+ghost use Rattle.wt_refute.specs.Placed.{window_of, tile_window};
+ghost use Rattle.wt_refute.specs.Refutes.{Refutes, tree_fault, tile_tree_fault, AreEmptyBelow};
 
-/// A domino whose window is empty stands nowhere in a valid rectangle that holds the window round it.
-pub fn empty_window_excludes()
-    ensures { (ts : List Tile) (axis : Axis) (a b radius w h : ℕ) (f : ℕ → ℕ → ℕ) (x y : ℕ)
-        → IsEmptyWindow ts axis a b radius → IsValid ts w h f
-        → x + (window_shape axis radius).0 ≤ w → y + (window_shape axis radius).1 ≤ h
-        → f (x + radius) (y + radius) ≡ a → beside axis f (x + radius) (y + radius) ≡ b → ⊥ }
+/// A tree has no wrong node exactly where it refutes the window of its two tiles.
+pub fn no_fault_refutes()
+    ensures { (ts : List Tile) (axis : Axis) (a b radius : ℕ) (known : List Refuted) (tree : Tree)
+        → (tree_fault ts axis a b radius known tree ≡ None) ↔ Refutes ts radius known (window_of axis a b radius) (refutation tree) }
 {}
 
-/// A tree has no wrong node exactly where it refutes.
-pub fn no_wrong_node_refutes()
-    ensures { (ts : List Tile) (radius : ℕ) (known : List Refuted) (p : Placed) (tree : Refutation)
-        → (first_wrong ts radius known p tree ≡ None) ↔ Refutes ts radius known p tree }
+/// The tree of a tile has no wrong node exactly where it refutes the square window of the tile.
+pub fn no_tile_fault_refutes()
+    ensures { (ts : List Tile) (tile radius : ℕ) (tree : Tree)
+        → (tile_tree_fault ts tile radius tree ≡ None) ↔ Refutes ts radius [] (tile_window tile radius) (refutation tree) }
 {}
 
-/// A refuted window is empty, where those of the known entries of lower radius are.
-pub fn refuted_window_is_empty()
-    ensures { (ts : List Tile) (axis : Axis) (a b radius : ℕ) (known : List Refuted) (tree : Refutation)
-        → AreEmptyBelow ts radius known → Refutes ts radius known (window_of axis a b radius) tree → IsEmptyWindow ts axis a b radius }
+/// A tree without a wrong node leaves no valid window with a and b in the middle, where the windows
+/// of the known entries of lower radius are empty.
+pub fn trees_refute()
+    ensures { (ts : List Tile) (axis : Axis) (a b radius : ℕ) (known : List Refuted) (tree : Tree)
+        → tree_fault ts axis a b radius known tree ≡ None → AreEmptyBelow ts radius known → IsEmptyWindow ts axis a b radius }
 {}
 
-/// Where each tree refutes its window with the whole list known, every window of the list is empty.
+/// Where each tree of a list is right with the whole list known, each window of the list is empty: by
+/// induction on the radius.
 pub fn refuted_windows_are_empty()
-    ensures { (ts : List Tile) (known : List Refuted) → AllRefute ts known known → AreEmpty ts known }
+    ensures { (ts : List Tile) (known : List Refuted)
+        → ((i : ℕ) (k : Refuted) → slice_get known i ≡ Some k → tree_fault ts k.axis k.a k.b k.radius known k.tree ≡ None)
+        → (i : ℕ) (k : Refuted) → slice_get known i ≡ Some k → IsEmptyWindow ts k.axis k.a k.b k.radius }
 {}
 
-/// A tile whose tree refutes is in the middle of no valid square.
-pub fn refuted_tile_is_excluded()
-    ensures { (ts : List Tile) (tile radius : ℕ) (tree : Refutation) → Refutes ts radius [] (tile_window tile radius) tree
-        → (f : ℕ → ℕ → ℕ) → IsValid ts (2 * radius + 1) (2 * radius + 1) f → f radius radius ≡ tile → ⊥ }
+/// A tile whose tree has no wrong node stands at no cell of the core of a valid pattern.
+pub fn lost_tiles_are_absent()
+    ensures { (ts : List Tile) (tile radius : ℕ) (tree : Tree) → tile_tree_fault ts tile radius tree ≡ None
+        → (p : Grid) → IsPattern ts p → (x y : ℕ) → x < (core radius p).width → y < (core radius p).height → cell (core radius p) x y ≡ tile → ⊥ }
 {}

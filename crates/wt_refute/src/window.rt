@@ -1,18 +1,10 @@
 // Windows with some of their tiles placed.
 ghost use Rattle.std.specs.Prelude.{◌≡◌, ◌+◌, ℕ, ◌-◌, ◌^◌, ◌<◌, ◌≤◌, [], ◌∷◌, length, MatchOption, None};
-ghost use Rattle.wt_refute.specs.Field.{matches as all_match, window_shape as the_shape};
-ghost use Rattle.wt_refute.specs.Placed.{placed, tile_in as the_tile_in, is_free as the_is_free, right_of as the_right, above as the_above, left_of as the_left, below as the_below, may_join as may_stand, IsTile, AreTiles, fits as it_fits, passing};
+ghost use Rattle.wt_refute.specs.Placed.{placed, window_shape as the_shape, tile_in as the_tile_in, is_free as the_is_free, right_of as the_right, above as the_above, left_of as the_left, below as the_below, may_join as may_stand, fits as it_fits, passing};
 
-use wt_tile::{Axis, Tile};
+use wt_tile::{Axis, Tile, is_match};
 
-/// The width and height of a window.
-pub fn window_shape(axis: Axis, radius: u8) -> (usize, usize)
-    requires { radius ≤ 4 }
-    ensures { result ≡ the_shape axis radius }
-{
-    shape_of(axis, radius)
-}
-
+/// The width and height of the window round two tiles that follow each other along the axis.
 pub fn shape_of(axis: Axis, radius: u8) -> (usize, usize)
     ensures { result ≡ the_shape axis radius }
 {
@@ -23,23 +15,8 @@ pub fn shape_of(axis: Axis, radius: u8) -> (usize, usize)
     }
 }
 
-#[tactic(auto, unfolding(crate::specs::Field::matches))]
-fn is_match(tiles: &[Tile], axis: Axis, a: u16, b: u16) -> bool
-    requires first { a < length tiles.now }
-    requires second { b < length tiles.now }
-    ensures { result ≡ all_match tiles.now axis a b }
-{
-    let a = tiles[usize::from(a)];
-    let b = tiles[usize::from(b)];
-    match axis {
-        Axis::One => a.east == b.west,
-        Axis::Two => a.north == b.south,
-    }
-}
-
 pub fn tile_in(shape: (usize, usize), cells: &[Option<u16>], cell: usize) -> Option<u16>
-    ensures value { result ≡ the_tile_in (placed shape cells.now) cell }
-    ensures tile { (n : ℕ) → AreTiles n cells.now → IsTile n result }
+    ensures { result ≡ the_tile_in (placed shape cells.now) cell }
 {
     if cell < cells.len() {
         cells[cell]
@@ -64,8 +41,7 @@ pub fn right_of(shape: (usize, usize), cells: &[Option<u16>], cell: usize) -> Op
     requires wide { 0 < shape.0 }
     requires small { shape.0 < 2 ^ 32 }
     requires low { cell < 2 ^ 32 }
-    ensures value { result ≡ the_right (placed shape cells.now) cell }
-    ensures tile { (n : ℕ) → AreTiles n cells.now → IsTile n result }
+    ensures { result ≡ the_right (placed shape cells.now) cell }
 {
     if cell % shape.0 + 1 < shape.0 {
         tile_in(shape, cells, cell + 1)
@@ -77,16 +53,14 @@ pub fn right_of(shape: (usize, usize), cells: &[Option<u16>], cell: usize) -> Op
 pub fn above(shape: (usize, usize), cells: &[Option<u16>], cell: usize) -> Option<u16>
     requires small { shape.0 < 2 ^ 32 }
     requires low { cell < 2 ^ 32 }
-    ensures value { result ≡ the_above (placed shape cells.now) cell }
-    ensures tile { (n : ℕ) → AreTiles n cells.now → IsTile n result }
+    ensures { result ≡ the_above (placed shape cells.now) cell }
 {
     tile_in(shape, cells, cell + shape.0)
 }
 
 fn left_of(shape: (usize, usize), cells: &[Option<u16>], cell: usize) -> Option<u16>
     requires wide { 0 < shape.0 }
-    ensures value { result ≡ the_left (placed shape cells.now) cell }
-    ensures tile { (n : ℕ) → AreTiles n cells.now → IsTile n result }
+    ensures { result ≡ the_left (placed shape cells.now) cell }
 {
     if cell % shape.0 > 0 {
         tile_in(shape, cells, cell - 1)
@@ -96,8 +70,7 @@ fn left_of(shape: (usize, usize), cells: &[Option<u16>], cell: usize) -> Option<
 }
 
 fn below(shape: (usize, usize), cells: &[Option<u16>], cell: usize) -> Option<u16>
-    ensures value { result ≡ the_below (placed shape cells.now) cell }
-    ensures tile { (n : ℕ) → AreTiles n cells.now → IsTile n result }
+    ensures { result ≡ the_below (placed shape cells.now) cell }
 {
     if shape.0 <= cell {
         tile_in(shape, cells, cell - shape.0)
@@ -107,8 +80,6 @@ fn below(shape: (usize, usize), cells: &[Option<u16>], cell: usize) -> Option<u1
 }
 
 fn may_join(tiles: &[Tile], axis: Axis, a: Option<u16>, b: Option<u16>) -> bool
-    requires first { IsTile (length tiles.now) a }
-    requires second { IsTile (length tiles.now) b }
     ensures { result ≡ may_stand tiles.now axis a b }
 {
     match a {
@@ -131,8 +102,6 @@ pub fn fits(
     requires wide { 0 < shape.0 }
     requires small { shape.0 < 2 ^ 32 }
     requires low { cell < 2 ^ 32 }
-    requires placed { AreTiles (length tiles.now) cells.now }
-    requires tile { tile < length tiles.now }
     ensures { result ≡ it_fits tiles.now (placed shape cells.now) cell tile }
 {
     may_join(tiles, Axis::One, Some(tile), right_of(shape, cells, cell))
@@ -154,7 +123,6 @@ pub fn next_fitting(
     requires small { shape.0 < 2 ^ 32 }
     requires low { cell < 2 ^ 32 }
     requires few { length tiles.now ≤ 65536 }
-    requires placed { AreTiles (length tiles.now) cells.now }
     ensures { MatchOption result
         (passing (it_fits tiles.now (placed shape cells.now) cell) from (length tiles.now - from) ≡ [])
         (λ t. (t < length tiles.now) × (passing (it_fits tiles.now (placed shape cells.now) cell) from (length tiles.now - from) ≡ t ∷ passing (it_fits tiles.now (placed shape cells.now) cell) (t + 1) (length tiles.now - (t + 1)))) }

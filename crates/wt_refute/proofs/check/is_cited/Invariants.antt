@@ -1,9 +1,9 @@
 use Rattle.std.proofs.Common.{◌≡◌, drop}
-use Rattle.wt_refute.specs.Placed.{placed}
-use Rattle.wt_refute.specs.Refutes.{any_serves}
+use Rattle.wt_grid.specs.Order.{has}
+use Rattle.wt_refute.specs.Refutes.{serves}
 use Rattle.wt_refute.proofs.check.is_cited.Given as goal
 
 abbrev pub invariant-loop-entry : goal.invariant-loop-entry
 invariant-loop-entry l =
-    any_serves l.radius (placed l.shape l.cells) l.cell l.axis l.a l.b (drop l.entry-index l.known)
-    ≡ any_serves l.radius (placed l.shape l.cells) l.cell l.axis l.a l.b l.known
+    has (serves l.radius l.shape.0 l.shape.1 l.cell l.axis l.a l.b) (drop l.entry-index l.known)
+    ≡ has (serves l.radius l.shape.0 l.shape.1 l.cell l.axis l.a l.b) l.known

@@ -1,7 +1,7 @@
 use Rattle.std.proofs.Common.{arith, ◌+◌, ◌*◌, ◌≤◌, take, None, ap, ◌∙◌}
 use Rattle.std.proofs.lemmas.Nat.{mul-le}
 use Rattle.wt_refute.proofs.Shape.{take_free}
-use Rattle.wt_refute.proofs.check.check_tile_tree.Goals as goal
+use Rattle.wt_refute.proofs.check.check_tile.Goals as goal
 
 pub place_tile-requires-clause-free : goal.place_tile-requires-clause-free
 place_tile-requires-clause-free c =
