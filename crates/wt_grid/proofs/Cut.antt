@@ -74,7 +74,7 @@ pub length_cut : (marker : ℕ → Bool) (ls : List (List ℕ)) → length ls �
 length_cut marker ls = let a = length_front marker ls in let b = length_end marker (cut_front marker ls) in omega arith
 
 module _ (t : Table) (good : IsGood t) where
-  begins : (ls : List (List ℕ)) → AllFilled ls → IsField t.along t.across ls → Begins t.marker (cut_front t.marker ls)
+  pub begins : (ls : List (List ℕ)) → AllFilled ls → IsField t.along t.across ls → Begins t.marker (cut_front t.marker ls)
   begins [] n f = tt
   begins ([] ∷ ls) n f = absurd n
   begins ((a ∷ as') ∷ []) n f = at_first (t.marker a) refl

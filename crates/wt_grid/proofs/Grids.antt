@@ -1,7 +1,7 @@
 -- Lines and cells.
 use Rattle.std.proofs.Common.{arith, ◌≡◌, ℕ, zero, suc, ◌<◌, ◌≤◌, List, [], ◌∷◌, length, get_or, Bool, true, refl, ap, ◌∙◌, subst, inl, inr}
-use Rattle.wt_grid.specs.Lines.{Piece, IsAcross, IsBeside, IsField, Singles, Pairs, IsImage, AllFilled}
-use Rattle.wt_grid.specs.Grid.{Grid, IsGrid, Axis, one, two, along, across, at, listed, lines, grid_of}
+use Rattle.wt_grid.specs.Lines.{Piece, IsAcross, IsBeside, IsField, Singles, Pairs, IsImage, AllFilled, AllLong}
+use Rattle.wt_grid.specs.Grid.{Grid, IsGrid, Axis, one, two, along, across, at, listed, lines, grid_of, of_lines}
 use Rattle.wt_grid.proofs.Bridge.{length-listed, cell_of, field_listed}
 use Rattle.wt_grid.specs.Parts.{other, IsValid}
 use Rattle.wt_grid.proofs.Parts.{grid_grid}
@@ -43,10 +43,6 @@ lines_field m two g h two i j li lj = field_along (m two) (m one) g.height g.wid
 
 -- Lines of one length.
 
-abbrev pub AllLong : ℕ → List (List ℕ) → Type 0
-AllLong m [] = Unit {0}
-AllLong m (u ∷ ls) = (length u ≡ m) × AllLong m ls
-
 long_listed : (n m : ℕ) (a : ℕ → ℕ → ℕ) → AllLong m (listed n (λ i. listed m (a i)))
 long_listed zero m a = tt
 long_listed (suc n) m a = (length-listed m (a 0), long_listed n m (λ i. a (suc i)))
@@ -77,11 +73,6 @@ long_get : (m : ℕ) (ls : List (List ℕ)) (i : ℕ) → AllLong m ls → i < l
 long_get m [] i h lt = absurd (omega arith)
 long_get m (u ∷ ls) zero h lt = h.0
 long_get m (u ∷ ls) (suc i) h lt = long_get m ls i h.1 (omega arith)
-
--- the rectangle with these lines
-abbrev pub of_lines : Axis → ℕ → List (List ℕ) → Grid
-of_lines one m ls = grid_of (length ls) m (λ x y. get_or (get_or ls x []) y 0)
-of_lines two m ls = grid_of m (length ls) (λ x y. get_or (get_or ls y []) x 0)
 
 of_lines_lines : (m : ℕ) (ls : List (List ℕ)) (f : ℕ → ℕ → ℕ) → AllLong m ls → ((i j : ℕ) → i < length ls → j < m → f i j ≡ get_or (get_or ls i []) j 0)
     → listed (length ls) (λ i. listed m (f i)) ≡ ls

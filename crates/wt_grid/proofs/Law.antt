@@ -7,7 +7,9 @@ use Rattle.wt_grid.proofs.Desub.{one_parse}
 use Rattle.wt_grid.specs.Cuts.{backwards, opposite, cut_front, cut_lines, Side, after, before, cut, flip, table}
 use Rattle.wt_grid.proofs.Cut.{parse_cut, filled_cut, field_cut, length_cut}
 use Rattle.wt_grid.proofs.Backwards.{backwards_twice, length-backwards, field_backwards, filled_backwards, AreOpposite, image_backwards}
-use Rattle.wt_grid.proofs.Grids.{AllLong, long_coarse, of_lines, lines_of, grid_of_lines}
+use Rattle.wt_grid.specs.Grid.{of_lines}
+use Rattle.wt_grid.specs.Lines.{AllLong}
+use Rattle.wt_grid.proofs.Grids.{long_coarse, lines_of, grid_of_lines}
 
 from_map : (o : Option Piece) (p : Piece) → o ≡ Some p → option_map flip o ≡ Some (flip p)
 from_map o p e = rw e refl

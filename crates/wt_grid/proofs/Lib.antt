@@ -11,5 +11,8 @@ pub mod Backwards
 pub mod Law
 pub mod Rectangles
 pub mod Runs
+pub mod Images
+pub mod ImageGrids
+pub mod Carried
 pub mod Widths
 pub mod Periods

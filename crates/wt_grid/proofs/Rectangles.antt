@@ -7,6 +7,7 @@ use Rattle.wt_grid.specs.Grid.{Grid, cell, IsGrid, Axis, along, across, at, list
 use Rattle.wt_grid.specs.Grid.{one as first_axis, two as second_axis}
 use Rattle.wt_grid.proofs.Bridge.{length-listed, get_or-listed}
 use Rattle.wt_grid.proofs.Coarse.{first, last, MatchAcross, coarse_field}
+use Rattle.wt_grid.specs.Images.{LineBelow, LinesBelow}
 use Rattle.wt_grid.specs.Cuts.{Side, cut, table}
 use Rattle.wt_grid.specs.Parts.{other, AllBelow, IsValid}
 use Rattle.wt_grid.proofs.Law.{some_coarse, one_coarse, cut_field, cut_length, cut_long, coarse_grid}
@@ -55,31 +56,23 @@ same_lines axis g h ig ih e =
     by_axis second_axis g h ig ih n m e = same_cells g h ig ih m n (λ x y lx ly. e y x ly lx)
 
 -- Each coarse tile has an image.
-abbrev AllIn : ℕ → List ℕ → Type 0
-AllIn n [] = Unit {0}
-AllIn n (x ∷ xs) = (x < n) × AllIn n xs
-
-abbrev AllLinesIn : ℕ → List (List ℕ) → Type 0
-AllLinesIn n [] = Unit {0}
-AllLinesIn n (u ∷ ls) = AllIn n u × AllLinesIn n ls
-
 some_place : {A : Type 0} (xs : List A) (i : ℕ) (x : A) → slice_get xs i ≡ Some x → i < length xs
 some_place [] i x e = absurd (cc e)
 some_place (y ∷ xs) zero x e = omega arith
 some_place (y ∷ xs) (suc i) x e = let r = some_place xs i x e in omega arith
 
-in_singles : (im : List Piece) (q u : List ℕ) → Singles im q u → AllIn (length im) q
+in_singles : (im : List Piece) (q u : List ℕ) → Singles im q u → LineBelow (length im) q
 in_singles im [] u s = tt
 in_singles im (i ∷ is) [] s = absurd s
 in_singles im (i ∷ is) (a ∷ as') s = (some_place im i (one a) s.0, in_singles im is as' s.1)
 
-in_pairs : (im : List Piece) (q u v : List ℕ) → Pairs im q u v → AllIn (length im) q
+in_pairs : (im : List Piece) (q u v : List ℕ) → Pairs im q u v → LineBelow (length im) q
 in_pairs im [] u v s = tt
 in_pairs im (i ∷ is) [] v s = absurd s
 in_pairs im (i ∷ is) (a ∷ as') [] s = absurd s
 in_pairs im (i ∷ is) (a ∷ as') (b ∷ bs) s = (some_place im i (two a b) s.0, in_pairs im is as' bs s.1)
 
-in_image : (im : List Piece) (qs ls : List (List ℕ)) → IsImage im qs ls → AllLinesIn (length im) qs
+in_image : (im : List Piece) (qs ls : List (List ℕ)) → IsImage im qs ls → LinesBelow (length im) qs
 in_image im [] ls i = tt
 in_image im (q ∷ qs) [] i = absurd i
 in_image im (q ∷ qs) (u ∷ []) i = (in_singles im q u i.0, in_image im qs [] i.1)
@@ -88,17 +81,17 @@ in_image im (q ∷ qs) (u ∷ v ∷ ls) i = elim i [
   | inr p ↦ (in_pairs im q u v p.0, in_image im qs ls p.1)
 ]
 
-cell_in : (n : ℕ) (u : List ℕ) (j : ℕ) → AllIn n u → j < length u → get_or u j 0 < n
+cell_in : (n : ℕ) (u : List ℕ) (j : ℕ) → LineBelow n u → j < length u → get_or u j 0 < n
 cell_in n [] j h lt = absurd (omega arith)
 cell_in n (x ∷ u) zero h lt = h.0
 cell_in n (x ∷ u) (suc j) h lt = cell_in n u j h.1 (omega arith)
 
-line_in : (n : ℕ) (ls : List (List ℕ)) (i : ℕ) → AllLinesIn n ls → i < length ls → AllIn n (get_or ls i [])
+line_in : (n : ℕ) (ls : List (List ℕ)) (i : ℕ) → LinesBelow n ls → i < length ls → LineBelow n (get_or ls i [])
 line_in n [] i h lt = absurd (omega arith)
 line_in n (u ∷ ls) zero h lt = h.0
 line_in n (u ∷ ls) (suc i) h lt = line_in n ls i h.1 (omega arith)
 
-at_below : (axis : Axis) (n : ℕ) (g : Grid) → AllLinesIn n (lines axis g) → (i j : ℕ) → i < along axis g → j < across axis g → at axis g i j < n
+at_below : (axis : Axis) (n : ℕ) (g : Grid) → LinesBelow n (lines axis g) → (i j : ℕ) → i < along axis g → j < across axis g → at axis g i j < n
 at_below axis n g h i j li lj =
     let l = line_in n (lines axis g) i h (let e = length_lines axis g in omega arith) in
     let k : length (get_or (lines axis g) i []) ≡ across axis g = ap length (get_or-listed (along axis g) i (λ i. listed (across axis g) (λ j. at axis g i j)) [] li) ∙ length-listed (across axis g) (λ j. at axis g i j) in
@@ -106,7 +99,7 @@ at_below axis n g h i j li lj =
     let e = line_cell axis g i j li lj in
     omega arith
 
-pub below_lines : (axis : Axis) (n : ℕ) (g : Grid) → AllLinesIn n (lines axis g) → AllBelow n g
+pub below_lines : (axis : Axis) (n : ℕ) (g : Grid) → LinesBelow n (lines axis g) → AllBelow n g
 below_lines first_axis n g h = λ x y lx ly. at_below first_axis n g h x y lx ly
 below_lines second_axis n g h = λ x y lx ly. at_below second_axis n g h y x ly lx
 

@@ -4,4 +4,6 @@ pub mod Grid
 pub mod Parts
 pub mod Lines
 pub mod Cuts
+pub mod Images
+pub mod Shifts
 pub mod Widths

@@ -1,3 +1,4 @@
-pub mod Shape
 pub mod Patterns
+pub mod Shape
+pub mod TileRows
 pub mod Windows

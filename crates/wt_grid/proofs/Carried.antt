@@ -1,0 +1,145 @@
+-- Lines that repeat themselves at a distance are cut into blocks that do.
+use Rattle.std.proofs.Common.{arith, ◌≡◌, ◌⊎◌, ◌≤◌, ◌<◌, ◌+◌, ◌-◌, ℕ, zero, suc, List, [], ◌∷◌, ◌++◌, length, length-append, take, drop, Bool, true, false, cond, Some, slice_get, refl, sym, ap, ◌∙◌, subst, inl, inr}
+use Rattle.std.proofs.lemmas.List.{take-append-drop}
+use Rattle.std.proofs.Math.Seq.{drop-append_seam, take-append_seam}
+use Rattle.wt_grid.specs.Lines.{Table, IsGood, IsAcross, IsField, Singles, Pairs, IsImage, is_marker_line, cut_end, AllFilled, AllLong, Begins, Shift, KeepsBlocks}
+use Rattle.wt_grid.specs.Lines.{one, two}
+use Rattle.wt_grid.specs.Cuts.{cut_front, cut_lines}
+use Rattle.wt_grid.specs.Shifts.{Same, Meets, Repeats}
+use Rattle.wt_grid.proofs.Cut.{begins, field_front, filled_front}
+use Rattle.wt_grid.proofs.Others.{split}
+use Rattle.wt_grid.proofs.Periods.{shift_blocks}
+
+-- Shifts.
+
+shift_nothing : (R : List ℕ → List ℕ → Type 0) (xs : List (List ℕ)) → Shift R xs []
+shift_nothing R [] = tt
+shift_nothing R (x ∷ xs) = tt
+
+-- without the first line of each
+shift_less : (R : List ℕ → List ℕ → Type 0) (x y : List ℕ) (xs ys : List (List ℕ)) → Shift R (x ∷ xs) (y ∷ ys) → Shift R xs ys
+shift_less R x y xs ys s = s.1
+
+drop_more : {A : Type 0} (d : ℕ) (xs : List A) → (drop d xs ≡ []) ⊎ ((x : A) × (drop d xs ≡ x ∷ drop (suc d) xs))
+drop_more zero [] = inl refl
+drop_more (suc d) [] = inl refl
+drop_more zero (x ∷ xs) = inr (x, refl)
+drop_more (suc d) (x ∷ xs) = drop_more d xs
+
+drop_none : {A : Type 0} (d : ℕ) (xs : List A) → drop d xs ≡ [] → drop (suc d) xs ≡ []
+drop_none zero [] e = refl
+drop_none zero (x ∷ xs) e = absurd cc
+drop_none (suc d) [] e = refl
+drop_none (suc d) (x ∷ xs) e = drop_none d xs e
+
+shift_tail : (R : List ℕ → List ℕ → Type 0) (u : List ℕ) (ls : List (List ℕ)) (d : ℕ) → Shift R (u ∷ ls) (drop d (u ∷ ls)) → Shift R ls (drop d ls)
+shift_tail R u ls zero s = s.1
+shift_tail R u ls (suc d) s = elim (drop_more d ls) [
+  | inl e ↦ subst (λ (ys : List (List ℕ)). Shift R ls ys) (sym (drop_none d ls e)) (shift_nothing R ls)
+  | inr x ↦ shift_less R u x.0 ls (drop (suc d) ls) (subst (λ (ys : List (List ℕ)). Shift R (u ∷ ls) ys) x.1 s)
+]
+
+shift_front : (R : List ℕ → List ℕ → Type 0) (marker : ℕ → Bool) (ls : List (List ℕ)) (d : ℕ) → Shift R ls (drop d ls) → Shift R (cut_front marker ls) (drop d (cut_front marker ls))
+shift_front R marker [] d s = s
+shift_front R marker (u ∷ ls) d s = go (is_marker_line marker u) refl
+  where
+    go : (b : Bool) → is_marker_line marker u ≡ b → Shift R (cut_front marker (u ∷ ls)) (drop d (cut_front marker (u ∷ ls)))
+    go true e = subst (λ (f : Bool). Shift R (cond f ls (u ∷ ls)) (drop d (cond f ls (u ∷ ls)))) (sym e) (shift_tail R u ls d s)
+    go false e = subst (λ (f : Bool). Shift R (cond f ls (u ∷ ls)) (drop d (cond f ls (u ∷ ls)))) (sym e) s
+
+-- what holds of each line
+abbrev pub EachLine : (List ℕ → Type 0) → List (List ℕ) → Type 0
+EachLine P [] = Unit {0}
+EachLine P (u ∷ ls) = P u × EachLine P ls
+
+each_drop : (P : List ℕ → Type 0) (d : ℕ) (ls : List (List ℕ)) → EachLine P ls → EachLine P (drop d ls)
+each_drop P zero ls h = h
+each_drop P (suc d) [] h = tt
+each_drop P (suc d) (u ∷ ls) h = each_drop P d ls h.1
+
+filled_drop : (d : ℕ) (ls : List (List ℕ)) → AllFilled ls → AllFilled (drop d ls)
+filled_drop zero ls h = h
+filled_drop (suc d) [] h = tt
+filled_drop (suc d) ([] ∷ ls) h = absurd h
+filled_drop (suc d) ((a ∷ as') ∷ ls) h = filled_drop d ls h
+
+shift_with : (R : List ℕ → List ℕ → Type 0) (P : List ℕ → Type 0) (xs ys : List (List ℕ)) → Shift R xs ys → EachLine P xs → EachLine P ys → Shift (λ u v. R u v × P u × P v) xs ys
+shift_with R P [] ys s p q = tt
+shift_with R P (x ∷ xs) [] s p q = tt
+shift_with R P (x ∷ xs) (y ∷ ys) s p q = ((s.0, p.0, q.0), shift_with R P xs ys s.1 p.1 q.1)
+
+-- Lines behind their first cells.
+
+drop_singles : (im : List _) (a : ℕ) (q u : List ℕ) → Singles im q u → Singles im (drop a q) (drop a u)
+drop_singles im zero q u s = s
+drop_singles im (suc a) [] [] s = tt
+drop_singles im (suc a) [] (x ∷ xs) s = absurd s
+drop_singles im (suc a) (i ∷ is) [] s = absurd s
+drop_singles im (suc a) (i ∷ is) (x ∷ xs) s = drop_singles im a is xs s.1
+
+drop_pairs : (im : List _) (a : ℕ) (q u v : List ℕ) → Pairs im q u v → Pairs im (drop a q) (drop a u) (drop a v)
+drop_pairs im zero q u v s = s
+drop_pairs im (suc a) [] [] [] s = tt
+drop_pairs im (suc a) [] [] (y ∷ ys) s = absurd s
+drop_pairs im (suc a) [] (x ∷ xs) v s = absurd s
+drop_pairs im (suc a) (i ∷ is) [] v s = absurd s
+drop_pairs im (suc a) (i ∷ is) (x ∷ xs) [] s = absurd s
+drop_pairs im (suc a) (i ∷ is) (x ∷ xs) (y ∷ ys) s = drop_pairs im a is xs ys s.1
+
+module _ (t : Table) (good : IsGood t) where
+  same_singles : (q r u v : List ℕ) → Singles t.images q u → Singles t.images r v → Same u v → Same q r
+  same_singles [] r u v s k h = tt
+  same_singles (i ∷ is) [] u v s k h = tt
+  same_singles (i ∷ is) (j ∷ js) [] v s k h = absurd s
+  same_singles (i ∷ is) (j ∷ js) (x ∷ xs) [] s k h = absurd k
+  same_singles (i ∷ is) (j ∷ js) (x ∷ xs) (y ∷ ys) s k h =
+      (good.distinct i j (one x) s.0 (k.0 ∙ ap (λ (z : ℕ). Some (one z)) (sym h.0)), same_singles is js xs ys s.1 k.1 h.1)
+
+  same_pairs : (q r u v u' v' : List ℕ) → Pairs t.images q u u' → Pairs t.images r v v' → Same u v → Same u' v' → Same q r
+  same_pairs [] r u v u' v' s k h g = tt
+  same_pairs (i ∷ is) [] u v u' v' s k h g = tt
+  same_pairs (i ∷ is) (j ∷ js) [] v u' v' s k h g = absurd s
+  same_pairs (i ∷ is) (j ∷ js) (x ∷ xs) v [] v' s k h g = absurd s
+  same_pairs (i ∷ is) (j ∷ js) (x ∷ xs) [] (x' ∷ xs') v' s k h g = absurd k
+  same_pairs (i ∷ is) (j ∷ js) (x ∷ xs) (y ∷ ys) (x' ∷ xs') [] s k h g = absurd k
+  same_pairs (i ∷ is) (j ∷ js) (x ∷ xs) (y ∷ ys) (x' ∷ xs') (y' ∷ ys') s k h g =
+      (good.distinct i j (two x x') s.0 (k.0 ∙ (ap (λ (z : ℕ). Some (two z y')) (sym h.0) ∙ ap (λ (z : ℕ). Some (two x z)) (sym g.0))), same_pairs is js xs ys xs' ys' s.1 k.1 h.1 g.1)
+
+  -- a line that fits across has one flag
+  one_flag : (a : ℕ) (c : ℕ) (cs : List ℕ) (x : ℕ) (xs : List ℕ) → IsAcross t.across (c ∷ cs) → drop a (c ∷ cs) ≡ x ∷ xs → t.marker c ≡ t.marker x
+  one_flag zero c cs x xs h e = ap t.marker (let z : c ≡ x = cc in z)
+  one_flag (suc a) c [] x xs h e = absurd (let z : drop a [] ≡ x ∷ xs = e in none a x xs z)
+    where
+      none : (a : ℕ) (x : ℕ) (xs : List ℕ) → drop a [] ≡ x ∷ xs → ⊥
+      none zero x xs e = cc
+      none (suc a) x xs e = cc
+  one_flag (suc a) c (d ∷ ds) x xs h e = good.uniform c d h.0 ∙ one_flag a d ds x xs h.1 e
+
+  drop_some : (a : ℕ) (u : List ℕ) → a < length u → (x : ℕ) × (xs : List ℕ) × (drop a u ≡ x ∷ xs)
+  drop_some a [] lt = absurd (omega arith)
+  drop_some zero (x ∷ xs) lt = (x, xs, refl)
+  drop_some (suc a) (x ∷ xs) lt = drop_some a xs (omega arith)
+
+  module _ (a b : ℕ) where
+    -- lines that fit across and are long enough to be compared
+    abbrev Long : List ℕ → Type 0
+    Long u = (a < length u) × (b < length u) × IsAcross t.across u
+
+    abbrev Meet : List ℕ → List ℕ → Type 0
+    Meet u v = Meets a b u v × Long u × Long v
+
+    same_flags : (u v : List ℕ) → Meet u v → is_marker_line t.marker u ≡ is_marker_line t.marker v
+    same_flags [] v m = absurd (let lt : a < 0 = m.1.0 in omega arith)
+    same_flags (c ∷ cs) [] m = absurd (let lt : a < 0 = m.2.0 in omega arith)
+    same_flags (c ∷ cs) (d ∷ ds) m =
+        let x = drop_some a (c ∷ cs) m.1.0 in
+        let y = drop_some b (d ∷ ds) m.2.1 in
+        let s : Same (x.0 ∷ x.1) (y.0 ∷ y.1) = subst (λ (w : List ℕ). Same (x.0 ∷ x.1) w) y.2 (subst (λ (w : List ℕ). Same w (drop b (d ∷ ds))) x.2 m.0) in
+        one_flag a c cs x.0 x.1 m.1.2 x.2 ∙ (ap t.marker s.0 ∙ sym (one_flag b d ds y.0 y.1 m.2.2 y.2))
+
+    keeps : KeepsBlocks t Meet (Meets a b)
+    keeps = record {
+      flags = same_flags;
+      ones_keep = λ q r u v s k m. same_singles (drop a q) (drop b r) (drop a u) (drop b v) (drop_singles t.images a q u s) (drop_singles t.images b r v k) m.0;
+      twos_keep = λ q r u v u' v' s k m n. same_pairs (drop a q) (drop b r) (drop a u) (drop b v) (drop a u') (drop b v') (drop_pairs t.images a q u u' s) (drop_pairs t.images b r v v' k) m.0 n.0;
+    }

@@ -1,0 +1,4 @@
+pub mod Commands
+pub mod Replies
+pub mod Answers
+pub mod Outcomes

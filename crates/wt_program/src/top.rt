@@ -1,0 +1,66 @@
+// All that the program does, over any source and sink.
+ghost use Rattle.std.specs.Prelude.{◌≡◌, ◌≢◌, ◌⊎◌, ℕ, take, codes, IfOk, IfSome, IfNone};
+ghost use Rattle.std.specs.Io.KnownBytes.{Appends};
+ghost use Rattle.wt_io.specs.Causes.{Rose};
+ghost use Rattle.wt_io.specs.Took.{TookUpTo};
+ghost use Rattle.wt_program.specs.Commands.{command, named, word_bytes};
+ghost use Rattle.wt_program.specs.Answers.{reply_to as command_reply, answer};
+ghost use Rattle.wt_program.specs.Outcomes.{IsAnswered, IsCutOff};
+
+use crate::answer::check_answer;
+use crate::command::{Command, command_of};
+use crate::reply::Reply;
+use crate::status::{LIMIT, OUT_OF_MEMORY, READ_FAULT, USAGE, WRITE_FAULT};
+use std::alloc::{AllocError, Global};
+use wt_io::{ReadError, Sink, Source, read_all, write_all};
+
+/// The most bytes that an input may have: 16 MiB.
+const MAX_INPUT: usize = 16_777_216;
+
+/// The reply of a command to its whole input.
+fn reply_to(alloc: Global, command: Command<'_>, bytes: &[u8]) -> Result<Reply, AllocError>
+    ensures { IfOk result (λ reply. reply ≡ command_reply (named command.entry) bytes.now) }
+{
+    match command {
+        Command::Check => check_answer(alloc, bytes),
+        Command::Desub { step: _ } => check_answer(alloc, bytes),
+    }
+}
+
+/// Writes a text and answers its status, or that of a write fault.
+fn finish<K: Sink>(sink: &mut K, text: &[u8], status: u8) -> u8
+    requires { status ≢ 4 }
+    ensures done { result ≢ 4 → (result ≡ status) × Appends (K.held sink.old) (K.held sink.new) text.now }
+    ensures fault { result ≡ 4 → Rose (K.faults sink.old) (K.faults sink.new) }
+    ensures prefix { result ≡ 4 → (n : ℕ) × Appends (K.held sink.old) (K.held sink.new) (take n text.now) }
+{
+    match write_all(sink, text) {
+        Ok(()) => status,
+        Err(_) => WRITE_FAULT,
+    }
+}
+
+/// All that the program does: it answers the command that the words are to the bytes of the source, writes its answer to the sink, and answers the status.
+pub fn wang<S: Source, K: Sink>(alloc: Global, words: &[String], src: &mut S, sink: &mut K) -> u8
+    ensures answered { IfSome (S.left src.old) (λ bytes. IsAnswered (answer (word_bytes words.now) bytes) (K.held sink.old) (K.held sink.new) result) }
+    ensures usage { command (word_bytes words.now) ≡ None → ((result ≡ 2) ⊎ (result ≡ 4)) × (src.new ≡ src.old) }
+    ensures usage_only { result ≡ 2 → (command (word_bytes words.now) ≡ None) × Appends (K.held sink.old) (K.held sink.new) (codes "usage\n") }
+    ensures read_fault { result ≡ 3 → Rose (S.faults src.old) (S.faults src.new) × Appends (K.held sink.old) (K.held sink.new) (codes "read fault\n") }
+    ensures read_within { result ≡ 3 → TookUpTo (S.left src.old) (S.left src.new) 16777216 }
+    ensures write_fault { result ≡ 4 → Rose (K.faults sink.old) (K.faults sink.new) }
+    ensures cut_off { result ≡ 4 → IfSome (S.left src.old) (λ bytes. IsCutOff (answer (word_bytes words.now) bytes) (Rose (S.faults src.old) (S.faults src.new)) (K.held sink.old) (K.held sink.new)) }
+    ensures memory { result ≡ 7 → Appends (K.held sink.old) (K.held sink.new) (codes "out of memory\n") }
+{
+    let Some(command) = command_of(words) else {
+        return finish(sink, b"usage\n", USAGE);
+    };
+    match read_all(alloc, src, MAX_INPUT) {
+        Ok(bytes) => match reply_to(alloc, command, &bytes) {
+            Ok(reply) => finish(sink, reply.text(), reply.status()),
+            Err(AllocError) => finish(sink, b"out of memory\n", OUT_OF_MEMORY),
+        },
+        Err(ReadError::ReadFault) => finish(sink, b"read fault\n", READ_FAULT),
+        Err(ReadError::TooLong) => finish(sink, b"limit input\n", LIMIT),
+        Err(ReadError::OutOfMemory) => finish(sink, b"out of memory\n", OUT_OF_MEMORY),
+    }
+}
