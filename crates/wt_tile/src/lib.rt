@@ -1,16 +1,18 @@
-//! Tiles, names and tile sets.
+//! Tiles and tile sets: names of colours, the first fault of a list of tiles, matching, fusion, and colours of fused edges.
 #![tactic(auto)]
 
-mod checked;
 mod checks;
+mod colours;
+mod fusion;
 mod matching;
 mod name;
 mod set;
 mod tile;
 
-pub use checked::Checked;
 pub use checks::{colour_fault, place_of};
-pub use matching::{is_match, same_axis, tile_at};
+pub use colours::{ColourFault, Colours};
+pub use fusion::{Edge, Fused, fuse};
+pub use matching::{ahead, behind, is_match, same_axis, tile_at};
 pub use name::Name;
 pub use set::{SetRef, TileSet, set_fault};
 pub use tile::{Axis, SetFault, Side, Tile, TileList};
