@@ -14,5 +14,6 @@ pub mod Runs
 pub mod Images
 pub mod ImageGrids
 pub mod Carried
+pub mod CarriedSides
 pub mod Widths
 pub mod Periods
