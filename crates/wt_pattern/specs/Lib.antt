@@ -1,3 +1,5 @@
-pub mod Shape
 pub mod Patterns
+pub mod Shape
+pub mod TileRows
 pub mod Windows
+pub mod Numbered
