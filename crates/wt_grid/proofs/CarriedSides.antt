@@ -1,6 +1,6 @@
 -- Blocks that repeat themselves: for both sides, and wherever a run of them begins.
 use Rattle.std.proofs.Common.{arith, ◌≡◌, ◌⊎◌, ◌≤◌, ◌<◌, ◌+◌, ◌-◌, ℕ, zero, suc, List, [], ◌∷◌, ◌++◌, length, length-append, take, drop, get_or, Bool, true, false, cond, Some, slice_get, map, refl, sym, ap, ◌∙◌, subst, inl, inr}
-use Rattle.std.proofs.lemmas.List.{get_or-drop, length-drop, get_or_append_left, get_or-append_right}
+use Rattle.std.proofs.lemmas.List.{take-append-drop, get_or-drop, length-drop, get_or_append_left, get_or-append_right}
 use Rattle.std.proofs.lemmas.Option.{get_or_from_slice_get}
 use Rattle.std.proofs.Math.Seq.{drop-append_seam, take-append_seam}
 use Rattle.wt_grid.specs.Lines.{Piece, one, two, IsGood, IsAcross, IsField, Singles, Pairs, IsImage, is_marker_line, AllFilled, AllLong, Shift}
@@ -8,9 +8,9 @@ use Rattle.wt_grid.specs.Cuts.{backwards, opposite, cut_front, cut_lines, Side, 
 use Rattle.wt_grid.specs.Shifts.{Same, Meets, Repeats, fill}
 use Rattle.wt_grid.specs.Images.{piece_at, first_tile, last_tile, is_pair, firsts, lasts, is_double, line_image, image_lines, IsEvenLine, IsEven}
 use Rattle.wt_grid.proofs.Grids.{long_coarse, filled_long}
-use Rattle.wt_grid.proofs.Backwards.{backwards_twice, length-backwards, field_backwards, filled_backwards, image_backwards}
-use Rattle.wt_grid.proofs.Law.{flipped, unflipped}
-use Rattle.wt_grid.proofs.Carried.{EachLine, each_drop, shift_tail, shift_with, length_take, carry_cut}
+use Rattle.wt_grid.proofs.Backwards.{backwards_append, backwards_twice, length-backwards, field_backwards, filled_backwards, image_backwards}
+use Rattle.wt_grid.proofs.Law.{flipped, unflipped, cut_long}
+use Rattle.wt_grid.proofs.Carried.{EachLine, each_drop, shift_tail, shift_with, length_take, length_front, Long, carry_cut}
 
 -- ---- the image of coarse lines is the computed one
 
@@ -157,3 +157,187 @@ sizes_repeat im a b m n qs la lb e l r =
     let each = even_long im a b m qs la lb e l in
     shift_map (λ u v. Meets a b u v × EvenLong im a b u × EvenLong im a b v) (AsLarge (size im)) qs (drop n qs) (λ u v h. same_size im a b u v h.0 h.1 h.2)
     (shift_with (Meets a b) (EvenLong im a b) qs (drop n qs) r each (each_drop (EvenLong im a b) n qs each))
+
+-- ---- in the opposite order
+
+shift_to : (R : List ℕ → List ℕ → Type 0) (xs ys : List (List ℕ)) (i : ℕ) → Shift R xs ys → i < length xs → i < length ys → R (get_or xs i []) (get_or ys i [])
+shift_to R [] ys i s lx ly = absurd (omega arith)
+shift_to R (x ∷ xs) [] i s lx ly = absurd (omega arith)
+shift_to R (x ∷ xs) (y ∷ ys) zero s lx ly = s.0
+shift_to R (x ∷ xs) (y ∷ ys) (suc i) s lx ly = shift_to R xs ys i s.1 (omega arith) (omega arith)
+
+shift_from : (R : List ℕ → List ℕ → Type 0) (xs ys : List (List ℕ)) → ((i : ℕ) → i < length xs → i < length ys → R (get_or xs i []) (get_or ys i [])) → Shift R xs ys
+shift_from R [] ys h = tt
+shift_from R (x ∷ xs) [] h = tt
+shift_from R (x ∷ xs) (y ∷ ys) h = (h 0 (omega arith) (omega arith), shift_from R xs ys (λ i lx ly. h (suc i) (omega arith) (omega arith)))
+
+get_backwards : (xs : List (List ℕ)) (i : ℕ) → i < length xs → get_or (backwards xs) i [] ≡ get_or xs (length xs - 1 - i) []
+get_backwards [] i lt = absurd (omega arith)
+get_backwards (x ∷ xs) i lt = elim (side i) [
+  | inl h ↦ (let n = length-backwards xs in get_or_append_left (backwards xs) (x ∷ []) [] i (omega arith) ∙ (get_backwards xs i h ∙ at_next (omega arith)))
+  | inr h ↦ (let n = length-backwards xs in get_or-append_right (backwards xs) (x ∷ []) (length xs) i [] n (omega arith) ∙ (let z : i - length xs ≡ 0 = omega arith in let w : suc (length xs) - 1 - i ≡ 0 = omega arith in rw (z, w) refl))
+]
+  where
+    side : (i : ℕ) → (i < length xs) ⊎ (length xs ≤ i)
+    side i = grind arith
+
+    at_next : suc (length xs - 1 - i) ≡ suc (length xs) - 1 - i → get_or xs (length xs - 1 - i) [] ≡ get_or (x ∷ xs) (suc (length xs) - 1 - i) []
+    at_next e = subst (λ (k : ℕ). get_or xs (length xs - 1 - i) [] ≡ get_or (x ∷ xs) k []) e refl
+
+shift_backwards : (R : List ℕ → List ℕ → Type 0) (xs : List (List ℕ)) (d : ℕ) → Shift R xs (drop d xs) → Shift (λ u v. R v u) (backwards xs) (drop d (backwards xs))
+shift_backwards R xs d s = shift_from (λ u v. R v u) (backwards xs) (drop d (backwards xs)) (λ i lx ly.
+    let n = length-backwards xs in
+    let e = length-drop d (backwards xs) in
+    let f = length-drop d xs in
+    let k : ℕ = length xs - 1 - (d + i) in
+    let lk : k < length xs = omega arith in
+    let ld : k < length (drop d xs) = omega arith in
+    let same : d + k ≡ length xs - 1 - i = omega arith in
+    let r : R (get_or xs k []) (get_or (drop d xs) k []) = shift_to R xs (drop d xs) k s lk ld in
+    let here : get_or (backwards xs) i [] ≡ get_or (drop d xs) k [] = get_backwards xs i (omega arith) ∙ (ap (λ (j : ℕ). get_or xs j []) (sym same) ∙ sym (get_or-drop d xs k [])) in
+    let there : get_or (drop d (backwards xs)) i [] ≡ get_or xs k [] = get_or-drop d (backwards xs) i [] ∙ get_backwards xs (d + i) (omega arith) in
+    subst (λ (u : List ℕ). R (get_or (drop d (backwards xs)) i []) u) (sym here) (subst (λ (v : List ℕ). R v (get_or (drop d xs) k [])) (sym there) r))
+
+same_back : (xs ys : List ℕ) → Same xs ys → Same ys xs
+same_back [] [] s = tt
+same_back [] (y ∷ ys) s = tt
+same_back (x ∷ xs) [] s = tt
+same_back (x ∷ xs) (y ∷ ys) s = (sym s.0, same_back xs ys s.1)
+
+repeats_backwards : (a b d : ℕ) (xs : List (List ℕ)) → Repeats a b d xs → Repeats b a d (backwards xs)
+repeats_backwards a b d xs s =
+    shift_map (λ u v. Meets a b v u) (Meets b a) (backwards xs) (drop d (backwards xs)) (λ u v m. same_back (drop a v) (drop b u) m) (shift_backwards (Meets a b) xs d s)
+
+long_more : (m : ℕ) (xs : List (List ℕ)) (u : List ℕ) → AllLong m xs → length u ≡ m → AllLong m (xs ++ u ∷ [])
+long_more m [] u h e = (e, tt)
+long_more m (x ∷ xs) u h e = (h.0, long_more m xs u h.1 e)
+
+long_backwards : (m : ℕ) (xs : List (List ℕ)) → AllLong m xs → AllLong m (backwards xs)
+long_backwards m [] h = tt
+long_backwards m (x ∷ xs) h = long_more m (backwards xs) x (long_backwards m xs h.1) h.0
+
+fill_append : (f : List ℕ → ℕ) (xs ys : List (List ℕ)) → fill f (xs ++ ys) ≡ fill f xs + fill f ys
+fill_append f [] ys = omega arith
+fill_append f (x ∷ xs) ys = let r = fill_append f xs ys in omega arith
+
+fill_backwards : (f : List ℕ → ℕ) (xs : List (List ℕ)) → fill f (backwards xs) ≡ fill f xs
+fill_backwards f [] = refl
+fill_backwards f (x ∷ xs) = let r = fill_backwards f xs in let e = fill_append f (backwards xs) (x ∷ []) in omega arith
+
+fill_same : (f g : List ℕ → ℕ) (xs : List (List ℕ)) → ((u : List ℕ) → f u ≡ g u) → fill f xs ≡ fill g xs
+fill_same f g [] h = refl
+fill_same f g (x ∷ xs) h = let a = h x in let r = fill_same f g xs h in omega arith
+
+pair_flip : (p : Piece) → is_pair (flip p) ≡ is_pair p
+pair_flip (one a) = refl
+pair_flip (two a b) = refl
+
+at_flip : (im : List Piece) (i : ℕ) → piece_at (map flip im) i ≡ flip (piece_at im i)
+at_flip [] i = refl
+at_flip (p ∷ ps) zero = refl
+at_flip (p ∷ ps) (suc i) = at_flip ps i
+
+double_flip : (im : List Piece) (q : List ℕ) → is_double (map flip im) q ≡ is_double im q
+double_flip im [] = refl
+double_flip im (i ∷ is) = ap is_pair (at_flip im i) ∙ pair_flip (piece_at im i)
+
+size_flip : (im : List Piece) (q : List ℕ) → size (map flip im) q ≡ size im q
+size_flip im q = size_is (map flip im) q (is_double im q) (double_flip im q) ∙ sym (size_is im q (is_double im q) refl)
+
+-- ---- the law, for both sides
+
+line_across : (f g : ℕ → ℕ → Bool) (u : List ℕ) (ls : List (List ℕ)) → IsField f g (u ∷ ls) → IsAcross g u
+line_across f g u [] h = h
+line_across f g u (v ∷ ls) h = h.0
+
+lines_after : (f g : ℕ → ℕ → Bool) (u : List ℕ) (ls : List (List ℕ)) → IsField f g (u ∷ ls) → IsField f g ls
+lines_after f g u [] h = tt
+lines_after f g u (v ∷ ls) h = h.2
+
+abbrev FitsLong : (ℕ → ℕ → Bool) → ℕ → ℕ → List ℕ → Type 0
+FitsLong g a b u = (a < length u) × (b < length u) × IsAcross g u
+
+all_fit : (f g : ℕ → ℕ → Bool) (a b m : ℕ) (ls : List (List ℕ)) → a < m → b < m → AllLong m ls → IsField f g ls → EachLine (FitsLong g a b) ls
+all_fit f g a b m [] la lb l h = tt
+all_fit f g a b m (u ∷ ls) la lb l h =
+    (((let e : length u ≡ m = l.0 in omega arith), (let e : length u ≡ m = l.0 in omega arith), line_across f g u ls h), all_fit f g a b m ls la lb l.1 (lines_after f g u ls h))
+
+long_front : (m : ℕ) (marker : ℕ → Bool) (ls : List (List ℕ)) → AllLong m ls → AllLong m (cut_front marker ls)
+long_front m marker [] h = tt
+long_front m marker (u ∷ ls) h = go (is_marker_line marker u) refl
+  where
+    go : (b : Bool) → is_marker_line marker u ≡ b → AllLong m (cut_front marker (u ∷ ls))
+    go true e = rw e h.1
+    go false e = rw e h
+
+long_take : (m d : ℕ) (ls : List (List ℕ)) → AllLong m ls → AllLong m (take d ls)
+long_take m zero ls h = tt
+long_take m (suc d) [] h = tt
+long_take m (suc d) (u ∷ ls) h = (h.0, long_take m d ls h.1)
+
+-- what a period of lines becomes on the blocks: n blocks, which fill d lines wherever they begin
+abbrev pub Carried : List Piece → ℕ → ℕ → ℕ → List (List ℕ) → ℕ → Type 0
+Carried im a b d qs n = (n ≤ length qs) × Repeats a b n qs × ((k : ℕ) → k + n ≤ length qs → length (image_lines im (take n (drop k qs))) ≡ d)
+
+carry_after : (al ac : ℕ → ℕ → Bool) (marker : ℕ → Bool) (im : List Piece) → IsGood (table after al ac marker im) → (a b m d : ℕ) (ls qs : List (List ℕ)) → a < m → b < m → AllLong m ls → IsField al ac ls
+    → d + 3 ≤ length ls → Repeats a b d ls → IsImage im qs (cut_lines marker ls) → (n : ℕ) × Carried im a b d qs n
+carry_after al ac marker im good a b m d ls qs la lb l f le s i =
+    let t = table after al ac marker im in
+    let one : 1 ≤ m = omega arith in
+    let r = carry_cut t good a b ls qs d (filled_long m ls one l) (all_fit al ac a b m ls la lb l f) f le s i in
+    let lq : AllLong m qs = long_coarse im m qs (cut_lines marker ls) i (cut_long after m marker ls l) in
+    let le' = length_front marker ls in
+    let lt : AllLong m (take d (cut_front marker ls)) = long_take m d (cut_front marker ls) (long_front m marker ls l) in
+    let found = image_found im m r.0 (take d (cut_front marker ls)) one (long_coarse im m r.0 (take d (cut_front marker ls)) r.3 lt) r.3 in
+    let even = (image_found im m qs (cut_lines marker ls) one lq i).1 in
+    let n : ℕ = length r.0 in
+    let back : drop n qs ≡ r.1 = ap (drop n) r.2 ∙ drop-append_seam r.0 r.1 in
+    let front : take n qs ≡ r.0 = ap (take n) r.2 ∙ take-append_seam r.0 r.1 in
+    let rep : Repeats a b n qs = subst (λ (ys : List (List ℕ)). Shift (Meets a b) qs ys) (sym back) r.4 in
+    let total : length (image_lines im r.0) ≡ d = sym (ap length found.0) ∙ length_take d (cut_front marker ls) (omega arith) in
+    let lengths : length qs ≡ length r.0 + length r.1 = ap length r.2 ∙ length-append r.0 r.1 in
+    let large = sizes_repeat im a b m n qs la lb even lq rep in
+    (n, (omega arith, rep, λ k lk. fill_image im (take n (drop k qs)) ∙ (windows (size im) n k qs lk large ∙ (ap (fill (size im)) front ∙ (sym (fill_image im r.0) ∙ total)))))
+
+split_backwards : (n : ℕ) (qs : List (List ℕ)) → n ≤ length qs → drop (length qs - n) (backwards qs) ≡ backwards (take n qs)
+split_backwards n qs le =
+    let e : backwards qs ≡ backwards (drop n qs) ++ backwards (take n qs) = ap backwards (sym (take-append-drop n qs)) ∙ backwards_append (take n qs) (drop n qs) in
+    let c : length (backwards (drop n qs)) ≡ length qs - n = length-backwards (drop n qs) ∙ length-drop n qs in
+    ap (drop (length qs - n)) e ∙ subst (λ (k : ℕ). drop k (backwards (drop n qs) ++ backwards (take n qs)) ≡ backwards (take n qs)) c (drop-append_seam (backwards (drop n qs)) (backwards (take n qs)))
+
+take_rest : (n : ℕ) (xs : List (List ℕ)) → length xs ≤ n → take n xs ≡ xs
+take_rest zero [] le = refl
+take_rest zero (x ∷ xs) le = absurd (let h : suc (length xs) ≤ 0 = le in omega arith)
+take_rest (suc n) [] le = refl
+take_rest (suc n) (x ∷ xs) le = ap (λ (ys : List (List ℕ)). x ∷ ys) (take_rest n xs (omega arith))
+
+carry_before : (al ac : ℕ → ℕ → Bool) (marker : ℕ → Bool) (im : List Piece) → IsGood (table before al ac marker im) → (a b m d : ℕ) (ls qs : List (List ℕ)) → a < m → b < m → AllLong m ls → IsField al ac ls
+    → d + 3 ≤ length ls → Repeats a b d ls → IsImage im qs (cut before marker ls) → (n : ℕ) × Carried im a b d qs n
+carry_before al ac marker im good a b m d ls qs la lb l f le s i =
+    let om = map flip im in
+    let L = cut_lines marker (backwards ls) in
+    let one : 1 ≤ m = omega arith in
+    let j : IsImage om (backwards qs) L = subst (λ (ys : List (List ℕ)). IsImage om (backwards qs) ys) (backwards_twice L) (image_backwards im om (flipped im) qs (backwards L) i) in
+    let len = length-backwards ls in
+    let r = carry_after (opposite al) ac marker om good b a m d (backwards ls) (backwards qs) lb la (long_backwards m ls l) (field_backwards al ac ls f) (omega arith) (repeats_backwards a b d ls s) j in
+    let n : ℕ = r.0 in
+    let lenq = length-backwards qs in
+    let few : n ≤ length qs = (let h = r.1.0 in omega arith) in
+    let rep : Repeats a b n qs = subst (λ (ys : List (List ℕ)). Shift (Meets a b) ys (drop n ys)) (backwards_twice qs) (repeats_backwards b a n (backwards qs) r.1.1) in
+    let lq : AllLong m qs = long_coarse im m qs (cut before marker ls) i (cut_long before m marker ls l) in
+    let even = (image_found im m qs (cut before marker ls) one lq i).1 in
+    let large = sizes_repeat im a b m n qs la lb even lq rep in
+    let k : ℕ = length qs - n in
+    let last : length (image_lines om (take n (drop k (backwards qs)))) ≡ d = r.1.2 k (omega arith) in
+    let short : length (backwards (take n qs)) ≡ n = length-backwards (take n qs) ∙ length_take n qs few in
+    let win : take n (drop k (backwards qs)) ≡ backwards (take n qs) = ap (take n) (split_backwards n qs few) ∙ take_rest n (backwards (take n qs)) (omega arith) in
+    let total : fill (size im) (take n qs) ≡ d =
+        sym (fill_backwards (size im) (take n qs)) ∙ (sym (fill_same (size om) (size im) (backwards (take n qs)) (size_flip im))
+        ∙ (sym (fill_image om (backwards (take n qs))) ∙ (ap (λ (ys : List (List ℕ)). length (image_lines om ys)) (sym win) ∙ last))) in
+    (n, (few, rep, λ k' lk. fill_image im (take n (drop k' qs)) ∙ (windows (size im) n k' qs lk large ∙ total)))
+
+-- A period of the lines of a core is a period of its blocks.
+pub carry : (side : Side) (al ac : ℕ → ℕ → Bool) (marker : ℕ → Bool) (im : List Piece) → IsGood (table side al ac marker im) → (a b m d : ℕ) (ls qs : List (List ℕ)) → a < m → b < m → AllLong m ls → IsField al ac ls
+    → d + 3 ≤ length ls → Repeats a b d ls → IsImage im qs (cut side marker ls) → (n : ℕ) × Carried im a b d qs n
+carry after al ac marker im good a b m d ls qs la lb l f le s i = carry_after al ac marker im good a b m d ls qs la lb l f le s i
+carry before al ac marker im good a b m d ls qs la lb l f le s i = carry_before al ac marker im good a b m d ls qs la lb l f le s i
