@@ -160,13 +160,13 @@ sizes_repeat im a b m n qs la lb e l r =
 
 -- ---- in the opposite order
 
-shift_to : (R : List ℕ → List ℕ → Type 0) (xs ys : List (List ℕ)) (i : ℕ) → Shift R xs ys → i < length xs → i < length ys → R (get_or xs i []) (get_or ys i [])
+pub shift_to : (R : List ℕ → List ℕ → Type 0) (xs ys : List (List ℕ)) (i : ℕ) → Shift R xs ys → i < length xs → i < length ys → R (get_or xs i []) (get_or ys i [])
 shift_to R [] ys i s lx ly = absurd (omega arith)
 shift_to R (x ∷ xs) [] i s lx ly = absurd (omega arith)
 shift_to R (x ∷ xs) (y ∷ ys) zero s lx ly = s.0
 shift_to R (x ∷ xs) (y ∷ ys) (suc i) s lx ly = shift_to R xs ys i s.1 (omega arith) (omega arith)
 
-shift_from : (R : List ℕ → List ℕ → Type 0) (xs ys : List (List ℕ)) → ((i : ℕ) → i < length xs → i < length ys → R (get_or xs i []) (get_or ys i [])) → Shift R xs ys
+pub shift_from : (R : List ℕ → List ℕ → Type 0) (xs ys : List (List ℕ)) → ((i : ℕ) → i < length xs → i < length ys → R (get_or xs i []) (get_or ys i [])) → Shift R xs ys
 shift_from R [] ys h = tt
 shift_from R (x ∷ xs) [] h = tt
 shift_from R (x ∷ xs) (y ∷ ys) h = (h 0 (omega arith) (omega arith), shift_from R xs ys (λ i lx ly. h (suc i) (omega arith) (omega arith)))

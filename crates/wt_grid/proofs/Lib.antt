@@ -15,5 +15,6 @@ pub mod Images
 pub mod ImageGrids
 pub mod Carried
 pub mod CarriedSides
+pub mod CarriedGrids
 pub mod Widths
 pub mod Periods
