@@ -1,8 +1,9 @@
-//! A vector that contracts see as the list of its elements.
+//! Lists in public fields: a vector that contracts see as the list of its elements.
 #![tactic(auto)]
 
-ghost use Rattle.std.specs.Prelude.{◌≡◌};
+ghost use Rattle.std.specs.Prelude.{◌≡◌, IfOk};
 
+use std::alloc::{AllocError, Global};
 use std::marker::Model;
 
 /// A vector that contracts see as the list of its elements: neither its capacity nor its allocator counts.
@@ -39,5 +40,15 @@ impl<T> Seq<T> {
         ensures { result.items ≡ self }
     {
         self.items
+    }
+}
+
+impl<T: Copy> Seq<T> {
+    /// An equal list. Fails only for want of memory.
+    pub fn copy(&self, alloc: Global) -> Result<Self, AllocError>
+        ensures { IfOk result (λ copied. copied ≡ self.now) }
+    {
+        let items = Vec::from_slice(alloc, &self.items)?;
+        Ok(Seq { items })
     }
 }

@@ -1,20 +1,25 @@
--- Whether tiles match.
+-- Whether tiles match, as numbers of a list.
 use Rattle.std.specs.Prelude.{ℕ, Bool, true, false, nat_eq, List, slice_index_or}
 use Rattle.wt_tile.specs.declared.tile.Tile.{Tile}
 use Rattle.wt_tile.specs.declared.tile.Axis.{Axis}
 use Rattle.wt_tile.specs.declared.tile.Axis.TheVariants.{One, Two}
 use Rattle.wt_grid.specs.Grid.{Axis as GridAxis, one as first_axis, two as second_axis}
 
+-- b may stand next to a along the axis: to the right of it on axis 1, above it on axis 2
+abbrev pub fits : Axis → Tile → Tile → Bool
+fits One a b = nat_eq a.east b.west
+fits Two a b = nat_eq a.north b.south
+
 abbrev pub blank : Tile
 blank = record { east = 0; north = 0; west = 0; south = 0 }
 
+-- the tile with this number; a number past the list counts as a blank tile
 abbrev pub tile_at : List Tile → ℕ → Tile
 tile_at ts a = slice_index_or ts a blank
 
--- b may stand next to a along the axis: to the right of it on axis 1, above it on axis 2
+-- the tile b of the list may stand next to its tile a along the axis
 unfoldable pub matches : List Tile → Axis → ℕ → ℕ → Bool
-matches ts One a b = nat_eq (tile_at ts a).east (tile_at ts b).west
-matches ts Two a b = nat_eq (tile_at ts a).north (tile_at ts b).south
+matches ts axis a b = fits axis (tile_at ts a) (tile_at ts b)
 
 abbrev pub other : Axis → Axis
 other One = Two

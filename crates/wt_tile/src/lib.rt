@@ -1,15 +1,17 @@
-//! Tiles, names and tile sets.
+//! Tiles and tile sets: names of colours, the first fault of a list of tiles, matching, fusion, and colours of fused edges.
 #![tactic(auto)]
 
-mod checked;
 mod checks;
+mod colours;
+mod fusion;
 mod matching;
 mod name;
 mod set;
 mod tile;
 
-pub use checked::Checked;
 pub use checks::{colour_fault, place_of};
+pub use colours::{ColourFault, Colours};
+pub use fusion::{Edge, Fused, fuse};
 pub use matching::{is_match, same_axis, tile_at};
 pub use name::Name;
 pub use set::{SetRef, TileSet, set_fault};

@@ -1,10 +1,10 @@
-// Whether tiles match along an axis.
+// Whether tiles match along an axis, for any numbers.
 ghost use Rattle.std.specs.Prelude.{◌≡◌};
 ghost use Rattle.wt_tile.specs.Matching.{tile_at as tile_of, matches, same_axis as axes_agree};
 
 use crate::{Axis, Tile};
 
-/// The tile with this number, or the blank tile.
+/// The tile with this number; a number past the list counts as a blank tile.
 pub fn tile_at(tiles: &[Tile], a: u16) -> Tile
     ensures { result ≡ tile_of tiles.now a }
 {
@@ -21,7 +21,7 @@ pub fn tile_at(tiles: &[Tile], a: u16) -> Tile
     }
 }
 
-/// Whether b may follow a along the axis.
+/// Whether b may stand next to a along the axis: to the right of it on axis 1, above it on axis 2.
 #[tactic(auto, unfolding(crate::specs::Matching::matches))]
 pub fn is_match(tiles: &[Tile], axis: Axis, a: u16, b: u16) -> bool
     ensures { result ≡ matches tiles.now axis a b }
@@ -34,6 +34,7 @@ pub fn is_match(tiles: &[Tile], axis: Axis, a: u16, b: u16) -> bool
     }
 }
 
+/// Whether the axes are the same.
 pub fn same_axis(a: Axis, b: Axis) -> bool
     ensures { result ≡ axes_agree a b }
 {

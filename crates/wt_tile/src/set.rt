@@ -1,25 +1,41 @@
 // Tile sets: lists of tiles that have no fault.
-ghost use Rattle.std.specs.Prelude.{◌≡◌, ◌<◌, ◌≤◌, length, None, Some, IfOk, IfErr, MatchResult, slice_get, IsTrue, ◌↔◌};
-ghost use Rattle.wt_tile.specs.Sets.{set_fault as first_fault, east_west, north_south};
+ghost use Rattle.std.specs.Prelude.{◌≡◌, ◌<◌, ◌≤◌, length, None, Some, IfOk, MatchResult};
+ghost use Rattle.wt_tile.specs.Sets.{set_fault as first_fault};
+ghost use Rattle.wt_tile.specs.Matching.{tile_at as tile_of, matches as are_matching};
 
 use crate::checks::{are_apart, colour_fault, count_colours1, count_colours2, repeated};
+use crate::matching::{is_match, tile_at};
 use crate::{Axis, SetFault, Tile, TileList};
+use std::alloc::{AllocError, Global};
+use std::marker::Model;
 
-/// A list that is a tile set, borrowed.
+/// A list that is known to be a tile set, borrowed: whoever holds one need not test it again.
 #[derive(Clone, Copy)]
 pub struct SetRef<'a> {
+    /// The list of the set.
     pub list: &'a TileList,
     pub ghost good: { first_fault list.now ≡ None },
 }
 
-/// A list that is a tile set.
+/// A tile set: it owns a list that is one, and is seen by contracts as that list.
 #[derive(Drop)]
 pub struct TileSet {
     list: TileList,
-    pub ghost good: { first_fault list ≡ None },
 }
 
-/// The first fault of a list, or none.
+impl Model for TileSet {
+    ghost use Rattle.std.specs.Prelude.{◌≡◌, None};
+    ghost use Rattle.wt_tile.specs.declared.tile.TileList.{TileList};
+    ghost use Rattle.wt_tile.specs.Sets.{set_fault};
+
+    ghost Value = { TileList };
+
+    ghost view = { λ s. s.list };
+
+    ghost invariant = { λ s. set_fault s.list ≡ None };
+}
+
+/// The first fault of a list, or None exactly where it is a tile set. Takes no memory.
 #[tactic(auto, unfolding(crate::specs::Sets::set_fault))]
 pub fn set_fault(list: &TileList) -> Option<SetFault>
     ensures { result ≡ first_fault list.now }
@@ -49,8 +65,9 @@ pub fn set_fault(list: &TileList) -> Option<SetFault>
 }
 
 impl<'a> SetRef<'a> {
+    /// The list as a tile set, or its first fault. Takes no memory.
     pub fn new(list: &'a TileList) -> Result<SetRef<'a>, SetFault>
-        ensures { MatchResult result (λ set. set.list.now ≡ list.now) (λ fault. first_fault list.now ≡ Some fault) }
+        ensures { MatchResult result (λ set. (set.list.now ≡ list.now) × (first_fault list.now ≡ None)) (λ fault. first_fault list.now ≡ Some fault) }
     {
         match set_fault(list) {
             None => Ok(SetRef { list }),
@@ -58,6 +75,7 @@ impl<'a> SetRef<'a> {
         }
     }
 
+    /// A list that is known to be a tile set. Takes no memory.
     pub fn of(list: &'a TileList) -> SetRef<'a>
         requires { first_fault list.now ≡ None }
         ensures { result.list.now ≡ list.now }
@@ -65,9 +83,18 @@ impl<'a> SetRef<'a> {
         SetRef { list }
     }
 
+    /// An equal set of its own, names included. Fails only for want of memory.
+    pub fn copy(self, alloc: Global) -> Result<TileSet, AllocError>
+        ensures { IfOk result (λ set. set ≡ self.entry.list.now) }
+    {
+        let list = self.list.copy(alloc)?;
+        Ok(TileSet { list })
+    }
+
     /// The list of the set.
     pub fn list(self) -> &'a TileList
-        ensures { result.now ≡ self.entry.list.now }
+        ensures value { result.now ≡ self.entry.list.now }
+        ensures good { first_fault result.now ≡ None }
     {
         self.list
     }
@@ -81,11 +108,39 @@ impl<'a> SetRef<'a> {
     {
         self.list.tiles.as_slice()
     }
+
+    /// How many tiles the set has: 1 to 256.
+    #[tactic(auto, using(crate::proofs::Sizes::few_tiles))]
+    pub fn len(self) -> usize
+        ensures value { result ≡ length self.entry.list.now.tiles }
+        ensures some { 0 < result }
+        ensures few { result ≤ 256 }
+    {
+        self.list.tiles.as_slice().len()
+    }
+
+    /// The tile with this number, which is in range.
+    pub fn tile(self, i: u16) -> Tile
+        requires { i < length self.list.now.tiles }
+        ensures { result ≡ tile_of self.entry.list.now.tiles i }
+    {
+        tile_at(self.list.tiles.as_slice(), i)
+    }
+
+    /// Whether b may stand next to a along the axis: to the right of it on axis 1, above it on axis 2. Both numbers are in range.
+    pub fn matches(self, axis: Axis, a: u16, b: u16) -> bool
+        requires first { a < length self.list.now.tiles }
+        requires second { b < length self.list.now.tiles }
+        ensures { result ≡ are_matching self.entry.list.now.tiles axis a b }
+    {
+        is_match(self.list.tiles.as_slice(), axis, a, b)
+    }
 }
 
 impl TileSet {
+    /// The set of this list, or the list and its first fault. Takes no memory.
     pub fn new(list: TileList) -> Result<TileSet, (TileList, SetFault)>
-        ensures { MatchResult result (λ set. set.list ≡ list) (λ e. (e.0 ≡ list) × (first_fault list ≡ Some e.1)) }
+        ensures { MatchResult result (λ set. (set ≡ list) × (first_fault list ≡ None)) (λ e. (e.0 ≡ list) × (first_fault list ≡ Some e.1)) }
     {
         match set_fault(&list) {
             None => Ok(TileSet { list }),
@@ -93,14 +148,18 @@ impl TileSet {
         }
     }
 
+    /// The set, borrowed.
     pub fn view(&self) -> SetRef<'_>
-        ensures { result.list.now ≡ self.now.list }
+        ensures value { result.list.now ≡ self.now }
+        ensures good { first_fault self.now ≡ None }
     {
         SetRef { list: &self.list }
     }
 
+    /// The list of the set.
     pub fn into_list(self) -> TileList
-        ensures { result ≡ self.list }
+        ensures value { result ≡ self }
+        ensures good { first_fault result ≡ None }
     {
         self.list
     }

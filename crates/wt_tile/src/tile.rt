@@ -1,19 +1,26 @@
 // Tiles, and lists of them with the names of their colours.
+ghost use Rattle.std.specs.Prelude.{◌≡◌, IfOk};
+
 use crate::Name;
+use std::alloc::{AllocError, Global};
 use wt_seq::Seq;
 
+/// The axis along which tiles are neighbours: axis 1 runs to the right, axis 2 upwards.
 #[derive(Clone, Copy, Debug, PartialEq, Eq)]
 pub enum Axis {
     One,
     Two,
 }
 
+/// On which side of a tile the marker stands that is joined to it.
 #[derive(Clone, Copy, Debug, PartialEq, Eq)]
 pub enum Side {
     After,
     Before,
 }
 
+/// A Wang tile: a unit square with a colour on each edge. East and west colours belong to axis 1,
+/// north and south colours to axis 2, and the two are separate.
 #[derive(Clone, Copy, Debug, PartialEq, Eq)]
 pub struct Tile {
     pub east: u16,
@@ -22,6 +29,8 @@ pub struct Tile {
     pub south: u16,
 }
 
+/// Tiles, and the names of the colours of each axis: a colour's number is the place of its name.
+/// Any such list; one without a fault is a tile set.
 #[derive(Drop)]
 pub struct TileList {
     pub tiles: Seq<Tile>,
@@ -29,11 +38,33 @@ pub struct TileList {
     pub names2: Seq<Name>,
 }
 
+impl TileList {
+    /// An equal list. Fails only for want of memory.
+    pub fn copy(&self, alloc: Global) -> Result<TileList, AllocError>
+        ensures { IfOk result (λ copied. copied ≡ self.now) }
+    {
+        let tiles = self.tiles.copy(alloc)?;
+        let names1 = self.names1.copy(alloc)?;
+        let names2 = self.names2.copy(alloc)?;
+        Ok(TileList {
+            tiles,
+            names1,
+            names2,
+        })
+    }
+}
+
+/// Why a list is no tile set. The first that holds is the list's fault.
 #[derive(Clone, Copy, Debug, PartialEq, Eq)]
 pub enum SetFault {
+    /// There is no tile.
     Empty,
+    /// There are more than 256 tiles.
     TooMany,
+    /// The first tile with a colour that isn't numbered by first coming, or has no name.
     NoColour { tile: usize },
+    /// Two names of this axis are equal, or there are more of them than colours.
     Names { axis: Axis },
+    /// Two tiles are equal: the least second of such tiles, and the least first for it.
     Repeated { first: usize, second: usize },
 }
