@@ -2,3 +2,4 @@ pub mod Patterns
 pub mod Shape
 pub mod TileRows
 pub mod Windows
+pub mod Numbered
