@@ -1,5 +1,6 @@
 pub mod First
 pub mod Order
+pub mod Keys
 pub mod Grids
 pub mod Parts
 pub mod Bridge

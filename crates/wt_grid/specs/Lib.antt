@@ -1,5 +1,6 @@
 pub mod First
 pub mod Order
+pub mod Pairs
 pub mod Grid
 pub mod Parts
 pub mod Lines
