@@ -97,14 +97,13 @@ fn sorting_fault(raw: &RawRestrict) -> Option<StepFault>
     sorted_fault(raw)
 }
 
-#[tactic(auto, unfolding(wt_refute::specs::Refutes::tile_tree_fault))]
 fn lost_fault_at(raw: &RawRestrict, lost: &Lost) -> Option<StepFault>
     requires sorted { IsSorted raw.now }
     requires fine { lost.now.tile < length raw.now.fine.tiles }
     ensures { result ≡ lost_at raw.now lost.now }
 {
     let set = SetRef::of(&raw.fine);
-    match check_tile_tree(set.tiles(), lost.tile, raw.radius, &lost.tree) {
+    match check_tile_tree(set, lost.tile, raw.radius, &lost.tree) {
         Ok(()) => None,
         Err(fault) => Some(StepFault::LostNode {
             tile: lost.tile,
