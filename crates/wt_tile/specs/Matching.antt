@@ -5,10 +5,19 @@ use Rattle.wt_tile.specs.declared.tile.Axis.{Axis}
 use Rattle.wt_tile.specs.declared.tile.Axis.TheVariants.{One, Two}
 use Rattle.wt_grid.specs.Grid.{Axis as GridAxis, one as first_axis, two as second_axis}
 
--- b may stand next to a along the axis: to the right of it on axis 1, above it on axis 2
+-- the colour of the edge that a tile shows the next tile along the axis
+abbrev pub ahead : Axis → Tile → ℕ
+ahead One t = t.east
+ahead Two t = t.north
+
+-- the colour of the edge that a tile shows the tile before it along the axis
+abbrev pub behind : Axis → Tile → ℕ
+behind One t = t.west
+behind Two t = t.south
+
+-- b may stand next to a along the axis, to the right of it on axis 1 and above it on axis 2: the edges where they meet have one colour
 abbrev pub fits : Axis → Tile → Tile → Bool
-fits One a b = nat_eq a.east b.west
-fits Two a b = nat_eq a.north b.south
+fits axis a b = nat_eq (ahead axis a) (behind axis b)
 
 abbrev pub blank : Tile
 blank = record { east = 0; north = 0; west = 0; south = 0 }

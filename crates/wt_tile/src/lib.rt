@@ -12,7 +12,7 @@ mod tile;
 pub use checks::{colour_fault, place_of};
 pub use colours::{ColourFault, Colours};
 pub use fusion::{Edge, Fused, fuse};
-pub use matching::{is_match, same_axis, tile_at};
+pub use matching::{ahead, behind, is_match, same_axis, tile_at};
 pub use name::Name;
 pub use set::{SetRef, TileSet, set_fault};
 pub use tile::{Axis, SetFault, Side, Tile, TileList};

@@ -1,6 +1,6 @@
 // Whether tiles match along an axis, for any numbers.
 ghost use Rattle.std.specs.Prelude.{◌≡◌};
-ghost use Rattle.wt_tile.specs.Matching.{tile_at as tile_of, matches, same_axis as axes_agree};
+ghost use Rattle.wt_tile.specs.Matching.{tile_at as tile_of, matches, same_axis as axes_agree, ahead as colour_ahead, behind as colour_behind};
 
 use crate::{Axis, Tile};
 
@@ -21,17 +21,32 @@ pub fn tile_at(tiles: &[Tile], a: u16) -> Tile
     }
 }
 
+/// The colour of the edge that a tile shows the next tile along the axis: east or north.
+pub fn ahead(axis: Axis, tile: Tile) -> u16
+    ensures { result ≡ colour_ahead axis tile }
+{
+    match axis {
+        Axis::One => tile.east,
+        Axis::Two => tile.north,
+    }
+}
+
+/// The colour of the edge that a tile shows the tile before it along the axis: west or south.
+pub fn behind(axis: Axis, tile: Tile) -> u16
+    ensures { result ≡ colour_behind axis tile }
+{
+    match axis {
+        Axis::One => tile.west,
+        Axis::Two => tile.south,
+    }
+}
+
 /// Whether b may stand next to a along the axis: to the right of it on axis 1, above it on axis 2.
 #[tactic(auto, unfolding(crate::specs::Matching::matches))]
 pub fn is_match(tiles: &[Tile], axis: Axis, a: u16, b: u16) -> bool
     ensures { result ≡ matches tiles.now axis a b }
 {
-    let a = tile_at(tiles, a);
-    let b = tile_at(tiles, b);
-    match axis {
-        Axis::One => a.east == b.west,
-        Axis::Two => a.north == b.south,
-    }
+    ahead(axis, tile_at(tiles, a)) == behind(axis, tile_at(tiles, b))
 }
 
 /// Whether the axes are the same.
