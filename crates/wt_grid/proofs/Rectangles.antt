@@ -20,7 +20,7 @@ place w h k lw lt = (omega arith, (div-lt_iff_lt-mul {k = w} {x = k} {y = h} (om
 same_record : (w w' h h' : ℕ) (c c' : List ℕ) → w ≡ w' → h ≡ h' → c ≡ c' → Path Grid (record { width = w; height = h; cells = c }) (record { width = w'; height = h'; cells = c' })
 same_record w w' h h' c c' e f g = cc
 
-same_cells : (g h : Grid) → IsGrid g → IsGrid h → g.width ≡ h.width → g.height ≡ h.height → ((x y : ℕ) → x < g.width → y < g.height → cell g x y ≡ cell h x y) → g ≡ h
+pub same_cells : (g h : Grid) → IsGrid g → IsGrid h → g.width ≡ h.width → g.height ≡ h.height → ((x y : ℕ) → x < g.width → y < g.height → cell g x y ≡ cell h x y) → g ≡ h
 same_cells g h ig ih w ht e =
     let size : length g.cells ≡ length h.cells = ig.whole ∙ (rw (w, ht) refl ∙ sym ih.whole) in
     let same : g.cells ≡ h.cells = ext_get_or 0 g.cells h.cells size (λ k lt.
@@ -72,7 +72,7 @@ in_pairs im (i ∷ is) [] v s = absurd s
 in_pairs im (i ∷ is) (a ∷ as') [] s = absurd s
 in_pairs im (i ∷ is) (a ∷ as') (b ∷ bs) s = (some_place im i (two a b) s.0, in_pairs im is as' bs s.1)
 
-in_image : (im : List Piece) (qs ls : List (List ℕ)) → IsImage im qs ls → LinesBelow (length im) qs
+pub in_image : (im : List Piece) (qs ls : List (List ℕ)) → IsImage im qs ls → LinesBelow (length im) qs
 in_image im [] ls i = tt
 in_image im (q ∷ qs) [] i = absurd i
 in_image im (q ∷ qs) (u ∷ []) i = (in_singles im q u i.0, in_image im qs [] i.1)

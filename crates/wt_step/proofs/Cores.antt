@@ -18,7 +18,8 @@ use Rattle.wt_step.specs.declared.raw.StepFault.TheVariants.{Node}
 use Rattle.wt_step.specs.Words.{allows, is_barred, entry_at, times, is_entry, entry_before, entry_fits, entries_follow, is_pair, axis_number}
 use Rattle.wt_step.specs.Faults.{tree_fault_at, tree_answer}
 use Rattle.wt_step.specs.Good.{GoodStep}
-use Rattle.wt_step.specs.Meaning.{allowing, TreesRefute}
+use Rattle.wt_step.specs.Meaning.{allowing}
+use Rattle.wt_refute.proofs.Faults.{all_empty}
 use Rattle.wt_tile.specs.Matching.{grid_axis, tile_axis, matching}
 use Rattle.wt_pattern.specs.Windows.{IsEmptyWindow}
 use Rattle.wt_step.proofs.Keys.{entries_split}
@@ -106,51 +107,44 @@ module _ (s : RawStep) (g : GoodStep s) where
         none_under (Node k.axis k.a k.b) (tree_fault s.fine.tiles k.axis k.a k.b k.radius s.refuted k.tree) (subst P known t),
       )
 
-  module _ (refute : TreesRefute) where
-    empty_below : (n i : ℕ) (k : Refuted) → slice_get s.refuted i ≡ Some k → k.radius < n → IsEmptyWindow s.fine.tiles k.axis k.a k.b k.radius
-    empty_below zero i k e lt = absurd (omega arith)
-    empty_below (suc n) i k e lt =
-        let r = entry_refutes i k e in
-        refute s.fine.tiles k.axis k.a k.b k.radius s.refuted k.tree r.0 r.1 (λ j l f lt'. empty_below n j l f (omega arith))
+  -- each refuted pair has an empty window
+  pub entry_empty : (i : ℕ) (k : Refuted) → slice_get s.refuted i ≡ Some k → IsEmptyWindow s.fine.tiles k.axis k.a k.b k.radius
+  entry_empty i k e = all_empty s.fine.tiles s.refuted (λ j m f. (entry_refutes j m f).1) i k e
 
-    -- each refuted pair has an empty window
-    pub entry_empty : (i : ℕ) (k : Refuted) → slice_get s.refuted i ≡ Some k → IsEmptyWindow s.fine.tiles k.axis k.a k.b k.radius
-    entry_empty i k e = empty_below (suc k.radius) i k e (omega arith)
+  -- each barred pair has an empty window of some radius up to the step's
+  barred_empty : (axis : Axis) (a b : ℕ) → a < length s.fine.tiles → b < length s.fine.tiles → is_barred s axis a b ≡ true → (r : ℕ) × (r ≤ s.radius) × IsEmptyWindow s.fine.tiles axis a b r
+  barred_empty axis a b la lb h =
+      let w = rw h at (g.named axis a b la lb) in
+      let one : times s axis a b ≡ 1 = grind (arith, nat_tests, w) in
+      let c = count_some (entry_at s axis a b) 0 (s.radius + 1) (omega arith) in
+      let lt = c.1 in
+      let f = find_some (is_entry c.0 axis a b) s.refuted c.2 c.3 in
+      let k = c.2 in
+      let p = both (nat_eq k.radius c.0) (nat_eq (axis_number k.axis) (axis_number axis) && is_pair a b (k.a, k.b)) f.2 in
+      let q = both (nat_eq (axis_number k.axis) (axis_number axis)) (is_pair a b (k.a, k.b)) p.1 in
+      let x = axis_same k.axis axis q.0 in
+      let y = is_pair_same a b (k.a, k.b) q.1 in
+      let z : k.radius ≡ c.0 = grind (arith, nat_tests, p.0) in
+      let e = entry_empty f.0 k f.1 in (
+        c.0,
+        omega arith,
+        subst (λ (r : ℕ). IsEmptyWindow s.fine.tiles axis a b r) z
+            (subst (λ (b' : ℕ). IsEmptyWindow s.fine.tiles axis a b' k.radius) y.1
+            (subst (λ (a' : ℕ). IsEmptyWindow s.fine.tiles axis a' k.b k.radius) y.0
+            (subst (λ (v : Axis). IsEmptyWindow s.fine.tiles v k.a k.b k.radius) x e))),
+      )
 
-    -- each barred pair has an empty window of some radius up to the step's
-    barred_empty : (axis : Axis) (a b : ℕ) → a < length s.fine.tiles → b < length s.fine.tiles → is_barred s axis a b ≡ true → (r : ℕ) × (r ≤ s.radius) × IsEmptyWindow s.fine.tiles axis a b r
-    barred_empty axis a b la lb h =
-        let w = rw h at (g.named axis a b la lb) in
-        let one : times s axis a b ≡ 1 = grind (arith, nat_tests, w) in
-        let c = count_some (entry_at s axis a b) 0 (s.radius + 1) (omega arith) in
-        let lt = c.1 in
-        let f = find_some (is_entry c.0 axis a b) s.refuted c.2 c.3 in
-        let k = c.2 in
-        let p = both (nat_eq k.radius c.0) (nat_eq (axis_number k.axis) (axis_number axis) && is_pair a b (k.a, k.b)) f.2 in
-        let q = both (nat_eq (axis_number k.axis) (axis_number axis)) (is_pair a b (k.a, k.b)) p.1 in
-        let x = axis_same k.axis axis q.0 in
-        let y = is_pair_same a b (k.a, k.b) q.1 in
-        let z : k.radius ≡ c.0 = grind (arith, nat_tests, p.0) in
-        let e = entry_empty f.0 k f.1 in (
-          c.0,
-          omega arith,
-          subst (λ (r : ℕ). IsEmptyWindow s.fine.tiles axis a b r) z
-              (subst (λ (b' : ℕ). IsEmptyWindow s.fine.tiles axis a b' k.radius) y.1
-              (subst (λ (a' : ℕ). IsEmptyWindow s.fine.tiles axis a' k.b k.radius) y.0
-              (subst (λ (v : Axis). IsEmptyWindow s.fine.tiles v k.a k.b k.radius) x e))),
-        )
-
-    -- each pair of neighbours in a core is allowed
-    pub core_allowed : (c : Grid) → AllBelow (length s.fine.tiles) c → IsValid (matching s.fine.tiles) c → IsValid (allowing s) (core s.radius c)
-    core_allowed c b v axis i j li lj = go (allows s (tile_axis axis) (at axis (core s.radius c) i j) (at axis (core s.radius c) (suc i) j)) refl
-      where
-        go : (t : Bool) → allows s (tile_axis axis) (at axis (core s.radius c) i j) (at axis (core s.radius c) (suc i) j) ≡ t
-            → allows s (tile_axis axis) (at axis (core s.radius c) i j) (at axis (core s.radius c) (suc i) j) ≡ true
-        go true t = t
-        go false t =
-            let m = core_valid (matching s.fine.tiles) s.radius c v axis i j li lj in
-            let h : is_barred s (tile_axis axis) (at axis (core s.radius c) i j) (at axis (core s.radius c) (suc i) j) ≡ true = rw (m, t) refl in
-            let e = barred_empty (tile_axis axis) (at axis (core s.radius c) i j) (at axis (core s.radius c) (suc i) j)
-            (core_below axis (length s.fine.tiles) s.radius c b i j (omega arith) lj) (core_below axis (length s.fine.tiles) s.radius c b (suc i) j li lj) h in
-            let w = core_window (length s.fine.tiles) (matching s.fine.tiles) axis c i j s.radius e.0 b v e.1 li lj in
-            absurd (e.2 w.0 (subst (λ (x : GridAxis). IsWindow (length s.fine.tiles) (matching s.fine.tiles) x (at axis (core s.radius c) i j) (at axis (core s.radius c) (suc i) j) e.0 w.0) (sym (grid_tile axis)) w.1))
+  -- each pair of neighbours in a core is allowed
+  pub core_allowed : (c : Grid) → AllBelow (length s.fine.tiles) c → IsValid (matching s.fine.tiles) c → IsValid (allowing s) (core s.radius c)
+  core_allowed c b v axis i j li lj = go (allows s (tile_axis axis) (at axis (core s.radius c) i j) (at axis (core s.radius c) (suc i) j)) refl
+    where
+      go : (t : Bool) → allows s (tile_axis axis) (at axis (core s.radius c) i j) (at axis (core s.radius c) (suc i) j) ≡ t
+          → allows s (tile_axis axis) (at axis (core s.radius c) i j) (at axis (core s.radius c) (suc i) j) ≡ true
+      go true t = t
+      go false t =
+          let m = core_valid (matching s.fine.tiles) s.radius c v axis i j li lj in
+          let h : is_barred s (tile_axis axis) (at axis (core s.radius c) i j) (at axis (core s.radius c) (suc i) j) ≡ true = rw (m, t) refl in
+          let e = barred_empty (tile_axis axis) (at axis (core s.radius c) i j) (at axis (core s.radius c) (suc i) j)
+          (core_below axis (length s.fine.tiles) s.radius c b i j (omega arith) lj) (core_below axis (length s.fine.tiles) s.radius c b (suc i) j li lj) h in
+          let w = core_window (length s.fine.tiles) (matching s.fine.tiles) axis c i j s.radius e.0 b v e.1 li lj in
+          absurd (e.2 w.0 (subst (λ (x : GridAxis). IsWindow (length s.fine.tiles) (matching s.fine.tiles) x (at axis (core s.radius c) i j) (at axis (core s.radius c) (suc i) j) e.0 w.0) (sym (grid_tile axis)) w.1))

@@ -23,7 +23,7 @@ use Rattle.wt_morphism.specs.declared.image.Image.{Image}
 use Rattle.wt_morphism.specs.declared.image.Image.TheVariants.{One as Single, Two as Double}
 use Rattle.wt_step.specs.Words.{allows, is_marker, image_at, image_fits, images_match, first_tile, last_tile, pieces_match}
 use Rattle.wt_step.specs.Good.{GoodStep}
-use Rattle.wt_step.specs.Meaning.{line_side, allowing, piece, pieces, IsCoarse, TreesRefute}
+use Rattle.wt_step.specs.Meaning.{line_side, allowing, piece, pieces, IsCoarse}
 use Rattle.wt_tile.specs.Matching.{grid_axis, tile_axis, matching}
 use Rattle.wt_pattern.specs.Patterns.{IsPattern}
 use Rattle.wt_step.proofs.Tables.{good_table, some_of, same_itself, not_other}
@@ -102,11 +102,11 @@ module _ (s : RawStep) (g : GoodStep s) where
       (stacks i j p r e f (subst (λ (u : Axis). MatchAcross (matches s.fine.tiles u) p r) (tile_other s.axis) m))
 
   -- Each valid rectangle has a coarse one inside its core, and that is valid.
-  pub some_coarse : TreesRefute → (c : Grid) → IsPattern s.fine.tiles c → 3 ≤ along (grid_axis s.axis) (core s.radius c) → 1 ≤ across (grid_axis s.axis) (core s.radius c)
+  pub some_coarse : (c : Grid) → IsPattern s.fine.tiles c → 3 ≤ along (grid_axis s.axis) (core s.radius c) → 1 ≤ across (grid_axis s.axis) (core s.radius c)
       → (q : Grid) × IsCoarse s c q × IsPattern s.coarse.tiles q
-  some_coarse refute c p la lc =
+  some_coarse c p la lc =
       let r = some_grid (grid_axis s.axis) (line_side s.side) (allowing s) (matching s.fine.tiles) (matching s.coarse.tiles) (is_marker s) (pieces s) the_table the_joins the_stacks
-      (core s.radius c) (core_allowed s g refute c p.1 p.2) (core_valid (matching s.fine.tiles) s.radius c p.2) la lc in
+      (core s.radius c) (core_allowed s g c p.1 p.2) (core_valid (matching s.fine.tiles) s.radius c p.2) la lc in
       let n : length (pieces s) ≡ length s.coarse.tiles = length-map s.images piece ∙ count_images in
       (r.0, r.3, (r.1, subst (λ (n : ℕ). AllBelow n r.0) n r.2, r.4))
 

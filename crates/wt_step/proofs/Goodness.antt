@@ -19,11 +19,11 @@ use Rattle.wt_step.specs.Good.{GoodStep}
 use Rattle.wt_step.proofs.Shaped.{holds, shaped}
 
 -- Answers that are none.
-all_none : {A : Type 0} (f : ℕ → Option A) (i n : ℕ) → ((k : ℕ) → i ≤ k → k < i + n → f k ≡ None) → first_from f i n ≡ None
+pub all_none : {A : Type 0} (f : ℕ → Option A) (i n : ℕ) → ((k : ℕ) → i ≤ k → k < i + n → f k ≡ None) → first_from f i n ≡ None
 all_none f i zero h = refl
 all_none f i (suc n) h = rw (h i (omega arith) (omega arith)) (all_none f (i + 1) n (λ k lo hi. h k (omega arith) (omega arith)))
 
-none_both : {A : Type 0} (a b : Option A) → a ≡ None → b ≡ None → or_else a b ≡ None
+pub none_both : {A : Type 0} (a b : Option A) → a ≡ None → b ≡ None → or_else a b ≡ None
 none_both a b e f = rw e f
 
 pub is_pair_same : (a b : ℕ) (p : ℕ × ℕ) → is_pair a b p ≡ true → (p.0 ≡ a) × (p.1 ≡ b)
@@ -58,7 +58,7 @@ none_in f (p ∷ ps) h =
     or_right true y e = refl
     or_right false y e = e
 
-fits : (b : Bool) (fault : StepFault) → b ≡ true → unless b fault ≡ None
+pub fits : (b : Bool) (fault : StepFault) → b ≡ true → unless b fault ≡ None
 fits b fault e = rw e refl
 
 pub agreed : (a b : Bool) → agree a b ≡ true → a ≡ b
@@ -66,7 +66,7 @@ agreed true b e = sym e
 agreed false true e = absurd (cc e)
 agreed false false e = refl
 
-agrees : (a b : Bool) → a ≡ b → agree a b ≡ true
+pub agrees : (a b : Bool) → a ≡ b → agree a b ≡ true
 agrees true b e = sym e
 agrees false true e = absurd (cc e)
 agrees false false e = refl

@@ -14,7 +14,7 @@ use Rattle.wt_step.proofs.Keys.{entries_split}
 use Rattle.wt_step.proofs.Cores.{above_at, known_entry, named_barred, fits_entry, entry_itself}
 
 -- a list that is split has at most one place with the key
-one_place : {A : Type 0} (low hit : A → Bool) (xs : List A) (i j : ℕ) (k l : A) → IsSplit low hit xs → slice_get xs i ≡ Some k → slice_get xs j ≡ Some l → hit k ≡ true → hit l ≡ true → i ≡ j
+pub one_place : {A : Type 0} (low hit : A → Bool) (xs : List A) (i j : ℕ) (k l : A) → IsSplit low hit xs → slice_get xs i ≡ Some k → slice_get xs j ≡ Some l → hit k ≡ true → hit l ≡ true → i ≡ j
 one_place low hit [] i j k l s e f h g = absurd (cc e)
 one_place low hit (x ∷ xs) zero zero k l s e f h g = refl
 one_place low hit (x ∷ xs) zero (suc j) k l s e f h g =

@@ -1,15 +1,13 @@
 -- Restrict steps whose lists have no fault.
-use Rattle.std.proofs.Common.{arith, ◌≡◌, ◌<◌, ℕ, List, ◌∷◌, length, None, option_map, true, ◌&&◌, not, nat_le}
+use Rattle.std.proofs.Common.{arith, ◌≡◌, length, None, option_map, not, nat_le}
 use Rattle.std.proofs.lemmas.Bool.Decides.{nat_tests}
 use Rattle.wt_tile.specs.Sets.{set_fault}
-use Rattle.wt_grid.specs.Order.{in_order, leads, agree}
+use Rattle.wt_grid.specs.Order.{agree}
 use Rattle.wt_grid.proofs.First.{neither, none_from}
-use Rattle.wt_grid.proofs.Order.{both}
 use Rattle.wt_step.specs.declared.raw.RawRestrict.{RawRestrict}
-use Rattle.wt_step.specs.declared.raw.Lost.{Lost}
 use Rattle.wt_step.specs.declared.raw.StepFault.TheVariants.{Radius, Fine, Coarse, Kept, LostList}
 use Rattle.wt_step.specs.Faults.{unless}
-use Rattle.wt_step.specs.Restrict.{kept_fit, lost_fit, sorted_fault, sorted_fault_at, is_lost, is_kept, lost_below, losses_follow, sorting_fault, IsSorted}
+use Rattle.wt_step.specs.Restrict.{kept_fit, lost_fit, sorted_fault, sorted_fault_at, is_lost, is_kept, sorting_fault, IsSorted}
 use Rattle.wt_step.proofs.Shaped.{none_under, holds}
 use Rattle.wt_step.proofs.Goodness.{agreed}
 
@@ -31,11 +29,3 @@ sorted s e =
       sorted = λ t lt. agreed (is_lost s t) (not (is_kept s t)) (holds (agree (is_lost s t) (not (is_kept s t))) LostList
           (none_from (sorted_fault_at s) 0 (length s.fine.tiles) t l.1 (omega arith) (omega arith)));
     }
-
--- the first of losses in order is below the bound, and the others are in order
-pub first_in_order : (n : ℕ) (l : Lost) (ls : List Lost) → in_order (lost_below n) losses_follow (l ∷ ls) ≡ true
-    → (l.tile < n) × (in_order (lost_below n) losses_follow ls ≡ true)
-first_in_order n l ls e =
-    let b = both (lost_below n l && leads losses_follow l ls) (in_order (lost_below n) losses_follow ls) e in
-    let c = both (lost_below n l) (leads losses_follow l ls) b.0 in
-    (grind (arith, nat_tests, c.0), b.1)

@@ -36,7 +36,7 @@ some_of [] i x d e = absurd (cc e)
 some_of (y ∷ xs) zero x d e = (omega arith, (let f : Some y ≡ Some x = e in cc))
 some_of (y ∷ xs) (suc i) x d e = let r = some_of xs i x d e in (omega arith, r.1)
 
-has_some : {A : Type 0} (p : A → Bool) (xs : List A) → has p xs ≡ true → (i : ℕ) × (x : A) × (slice_get xs i ≡ Some x) × (p x ≡ true)
+pub has_some : {A : Type 0} (p : A → Bool) (xs : List A) → has p xs ≡ true → (i : ℕ) × (x : A) × (slice_get xs i ≡ Some x) × (p x ≡ true)
 has_some p [] h = absurd (cc h)
 has_some p (x ∷ xs) h = go (p x) refl (has_some p xs)
   where

@@ -1,9 +1,13 @@
 -- Good steps.
-use Rattle.std.specs.Prelude.{ℕ, ◌≡◌, ◌<◌, length, take, None, true, false}
+use Rattle.std.specs.Prelude.{ℕ, ◌≡◌, ◌<◌, length, take, slice_get, None, Some, true, false}
 use Rattle.wt_tile.specs.declared.tile.Axis.{Axis}
 use Rattle.wt_tile.specs.Matching.{matches}
 use Rattle.wt_grid.specs.Order.{has}
 use Rattle.wt_step.specs.declared.raw.RawStep.{RawStep}
+use Rattle.wt_step.specs.declared.raw.RawRestrict.{RawRestrict}
+use Rattle.wt_step.specs.declared.raw.Lost.{Lost}
+use Rattle.wt_refute.specs.Refutes.{tile_tree_fault}
+use Rattle.wt_step.specs.Restrict.{IsSorted, kept_match}
 use Rattle.wt_morphism.specs.declared.image.Image.TheVariants.{One as Single, Two as Double}
 use Rattle.wt_step.specs.Words.{same_image, allows, is_barred, is_block, image_at, images_match}
 use Rattle.wt_step.specs.Faults.{IsShaped, is_named_well, trees_fault, is_marked_well, is_good_image, is_demanded}
@@ -27,3 +31,12 @@ pub record GoodStep (s : RawStep) : Type 0 where
   -- coarse tiles match as their images do
   pub joins : (axis : Axis) (i j : ℕ) → i < length s.coarse.tiles → j < length s.coarse.tiles
       → matches s.coarse.tiles axis i j ≡ images_match s axis (image_at s i) (image_at s j)
+
+pub record GoodRestrict (s : RawRestrict) : Type 0 where
+  -- the sets are tile sets, and each fine tile is either kept or lost, in lists in order
+  pub sorted : IsSorted s
+  -- the tree of each lost tile refutes its window
+  pub trees : (i : ℕ) (l : Lost) → slice_get s.lost i ≡ Some l → tile_tree_fault s.fine.tiles l.tile s.radius l.tree ≡ None
+  -- coarse tiles match as the fine tiles that they stand for
+  pub joins : (axis : Axis) (i j : ℕ) → i < length s.coarse.tiles → j < length s.coarse.tiles
+      → matches s.coarse.tiles axis i j ≡ kept_match s axis i j

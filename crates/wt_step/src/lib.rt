@@ -15,7 +15,7 @@ mod step;
 
 pub use borrowed::{LinkRef, RestrictRef};
 pub use good::{Step, StepRef, accept_step};
-pub use law::{desubstitutes, good_steps};
+pub use law::{cores_are_plain, desubstitutes, good_restricts, good_steps, restricts};
 pub use link::{Link, accept_link, link_fault};
 pub use raw::{Lost, RawLink, RawRestrict, RawStep, StepFault};
 pub use step::step_fault;

@@ -1,6 +1,6 @@
 // Restrict steps: the tests.
-ghost use Rattle.std.specs.Prelude.{◌≡◌, ◌<◌, ◌≤◌, length};
-ghost use Rattle.wt_grid.specs.Order.{in_order, leads, has, first_in};
+ghost use Rattle.std.specs.Prelude.{◌≡◌, ◌≤◌, length};
+ghost use Rattle.wt_grid.specs.Order.{in_order, leads, has};
 ghost use Rattle.wt_step.specs.Restrict.{kept_fit as kept_right, lost_fit as lost_right, lost_below, losses_follow, loses, is_lost as lost_in, sorted_fault_at as sorted_at, sorted_fault as first_unsorted, sorting_fault as first_unfit, lost_fault_at as lost_at, lost_fault as first_lost, kept_at as kept_of, kept_join_at as join_at, kept_join_row as first_of_row, kept_join_fault as first_join, use_fault as first_in_use, restrict_fault as first_fault, IsSorted};
 
 use crate::order::{is_among, numbers_ascend};
@@ -98,8 +98,7 @@ fn sorting_fault(raw: &RawRestrict) -> Option<StepFault>
 }
 
 fn lost_fault_at(raw: &RawRestrict, lost: &Lost) -> Option<StepFault>
-    requires sorted { IsSorted raw.now }
-    requires fine { lost.now.tile < length raw.now.fine.tiles }
+    requires { IsSorted raw.now }
     ensures { result ≡ lost_at raw.now lost.now }
 {
     let set = SetRef::of(&raw.fine);
@@ -113,17 +112,14 @@ fn lost_fault_at(raw: &RawRestrict, lost: &Lost) -> Option<StepFault>
 }
 
 /// The first lost tile whose tree doesn't refute its window.
-#[tactic(auto, using(crate::proofs::Sorted::first_in_order))]
 fn lost_fault(raw: &RawRestrict) -> Option<StepFault>
     requires { IsSorted raw.now }
     ensures { result ≡ first_lost raw.now }
 {
-    let mut left = raw.lost.as_slice();
-    while let [lost, after @ ..] = left {
+    for lost in raw.lost.as_slice() {
         if let Some(fault) = lost_fault_at(raw, lost) {
             return Some(fault);
         }
-        left = after;
     }
     None
 }

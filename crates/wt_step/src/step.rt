@@ -33,8 +33,6 @@ fn count_coarse(raw: &RawStep) -> u16
 
 fn tree_fault_at(raw: &RawStep, axis: Axis, a: u16, b: u16, radius: u8) -> Option<StepFault>
     requires shaped { IsShaped raw.now }
-    requires first { a < length raw.now.fine.tiles }
-    requires second { b < length raw.now.fine.tiles }
     requires small { radius ≤ 4 }
     ensures { result ≡ tree_at raw.now axis a b radius }
 {
@@ -57,9 +55,7 @@ fn tree_fault_at(raw: &RawStep, axis: Axis, a: u16, b: u16, radius: u8) -> Optio
 
 #[tactic(auto, using(wt_grid::proofs::First::first_more))]
 fn trees_fault(raw: &RawStep, axis: Axis, a: u16, b: u16) -> Option<StepFault>
-    requires shaped { IsShaped raw.now }
-    requires first { a < length raw.now.fine.tiles }
-    requires second { b < length raw.now.fine.tiles }
+    requires { IsShaped raw.now }
     ensures { result ≡ first_tree raw.now axis a b }
 {
     for radius in 0..raw.radius + 1 {
@@ -71,9 +67,7 @@ fn trees_fault(raw: &RawStep, axis: Axis, a: u16, b: u16) -> Option<StepFault>
 }
 
 fn pair_fault(raw: &RawStep, axis: Axis, a: u16, b: u16) -> Option<StepFault>
-    requires shaped { IsShaped raw.now }
-    requires first { a < length raw.now.fine.tiles }
-    requires second { b < length raw.now.fine.tiles }
+    requires { IsShaped raw.now }
     ensures { result ≡ fault_of_pair raw.now axis a b }
 {
     if !is_named_well(raw, axis, a, b) {
@@ -88,8 +82,7 @@ fn pair_fault(raw: &RawStep, axis: Axis, a: u16, b: u16) -> Option<StepFault>
 
 #[tactic(auto, using(wt_grid::proofs::First::first_more))]
 fn row_fault(raw: &RawStep, axis: Axis, a: u16) -> Option<StepFault>
-    requires shaped { IsShaped raw.now }
-    requires first { a < length raw.now.fine.tiles }
+    requires { IsShaped raw.now }
     ensures { result ≡ first_of_row raw.now axis a }
 {
     for b in 0..count_tiles(raw) {
