@@ -1,9 +1,9 @@
 // Numbers in a line.
-ghost use Rattle.std.specs.Prelude.{◌≡◌, ◌≤◌, ◌<◌, ◌^◌, ◌-◌};
+ghost use Rattle.std.specs.Prelude.{◌≡◌, ◌≤◌, ◌<◌, ◌^◌, ◌-◌, IfOk};
 ghost use Rattle.wt_text.specs.Words.{number as number_of, is_decimal as decimal_form, value_from};
 ghost use Rattle.wt_text.specs.Readers.{number_to as limited_number};
 ghost use Rattle.std.specs.Str.{all_ascii_digits};
-ghost use Rattle.wt_line.specs.Given.{left, held};
+ghost use Rattle.wt_line.specs.Given.{left, held, room};
 ghost use Rattle.wt_line.specs.Faults.{ReadsTokens};
 
 use crate::faults::{LineFault, What};
@@ -51,7 +51,9 @@ pub fn number_to(
     what: What,
     rest: Rest<'_>,
 ) -> Result<(Result<u32, What>, Rest<'_>), LineFault>
-    ensures { ReadsTokens (λ x. (x.0, left x.1.more x.1.line.now)) result (limited_number most what (left rest.entry.more rest.entry.line.now)) }
+    ensures within { IfOk result (λ x. IfOk x.0 (λ n. n ≤ most)) }
+    ensures fewer { IfOk result (λ x. room x.1.more x.1.line.now < room rest.entry.more rest.entry.line.now) }
+    ensures read { ReadsTokens (λ x. (x.0, left x.1.more x.1.line.now)) result (limited_number most what (left rest.entry.more rest.entry.line.now)) }
 {
     let Some((token, rest)) = next_token(rest) else {
         return Err(LineFault::Wrong);

@@ -1,3 +1,4 @@
 pub mod Names
 pub mod TileTurns
 pub mod Ends
+pub mod CellTurns

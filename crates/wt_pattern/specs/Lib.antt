@@ -3,3 +3,5 @@ pub mod Shape
 pub mod TileRows
 pub mod Windows
 pub mod Numbered
+pub mod PatternRows
+pub mod Cells

@@ -1,6 +1,7 @@
 //! Patterns: rectangles of tile numbers.
 #![tactic(auto)]
 
+mod cells;
 mod fault;
 mod pattern;
 mod rows;
