@@ -74,7 +74,7 @@ one_of new (Some h) = go (nat_lt new.1 h.1) refl
     go false e = inr (rw e refl)
 
 -- what is held after one cell more
-abbrev after_cell : List Tile → Placed → Option (ℕ × ℕ) → ℕ → Bool → Option (ℕ × ℕ)
+abbrev pub after_cell : List Tile → Placed → Option (ℕ × ℕ) → ℕ → Bool → Option (ℕ × ℕ)
 after_cell ts p held i b = cond b (Some (tighter (i, length (fitting ts p i)) held)) held
 
 still_free : (ts : List Tile) (p : Placed) (held : Option (ℕ × ℕ)) (i : ℕ) (b : Bool) → is_free p i ≡ b → ((c : ℕ × ℕ) → held ≡ Some c → is_free p c.0 ≡ true)
@@ -92,11 +92,11 @@ held_free : (ts : List Tile) (p : Placed) (held : Option (ℕ × ℕ)) (i n : �
 held_free ts p held i zero cell h e = h cell e
 held_free ts p held i (suc n) cell h e = held_free ts p (after_cell ts p held i (is_free p i)) (i + 1) n cell (still_free ts p held i (is_free p i) refl h) e
 
-mapped : (o : Option (ℕ × ℕ)) (cell : ℕ) → option_map (λ c. c.0) o ≡ Some cell → (c : ℕ × ℕ) × (o ≡ Some c) × (c.0 ≡ cell)
+pub mapped : (o : Option (ℕ × ℕ)) (cell : ℕ) → option_map (λ c. c.0) o ≡ Some cell → (c : ℕ × ℕ) × (o ≡ Some c) × (c.0 ≡ cell)
 mapped None cell e = absurd cc
 mapped (Some c) cell e = (c, refl, cc)
 
-none_mapped : (o : Option (ℕ × ℕ)) → option_map (λ c. c.0) o ≡ None → o ≡ None
+pub none_mapped : (o : Option (ℕ × ℕ)) → option_map (λ c. c.0) o ≡ None → o ≡ None
 none_mapped None e = refl
 none_mapped (Some c) e = absurd cc
 

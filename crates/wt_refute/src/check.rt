@@ -239,12 +239,7 @@ fn check_pair(
 /// Judges a tree for the square window of radius `radius` round a tile, with no known entries: the first
 /// node, in preorder from 0, that names a wrong cell, has other tiles than those that fit, or cites.
 /// Takes no memory.
-pub fn check_tile_tree(
-    set: SetRef<'_>,
-    tile: u16,
-    radius: u8,
-    tree: &Tree,
-) -> Result<(), TreeFault>
+pub fn check_tile_tree(set: SetRef<'_>, tile: u16, radius: u8, tree: &Tree) -> Result<(), TreeFault>
     requires { radius ≤ 4 }
     ensures { MatchResult result
         (λ _. tile_tree_fault set.entry.list.now.tiles tile radius tree.now ≡ None)

@@ -79,13 +79,7 @@ fn tighter(new: (u16, usize), held: Option<(u16, usize)>) -> (u16, usize)
 {
     match held {
         None => new,
-        Some(held) => {
-            if new.1 < held.1 {
-                new
-            } else {
-                held
-            }
-        }
+        Some(held) => { if new.1 < held.1 { new } else { held } }
     }
 }
 
