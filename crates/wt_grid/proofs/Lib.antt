@@ -17,5 +17,7 @@ pub mod ImageGrids
 pub mod Carried
 pub mod CarriedSides
 pub mod CarriedGrids
+pub mod Traces
+pub mod TraceSteps
 pub mod Widths
 pub mod Periods

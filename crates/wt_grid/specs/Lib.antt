@@ -8,3 +8,4 @@ pub mod Cuts
 pub mod Images
 pub mod Shifts
 pub mod Widths
+pub mod Traces
