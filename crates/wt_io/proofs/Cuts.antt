@@ -34,6 +34,10 @@ pub last_line : (b : ℕ) (t : List ℕ) → All (λ x. x ≢ 10) (b ∷ t) → 
 last_line b [] h = rw (front_free 10 b [] h) refl
 last_line b (c ∷ t) h = rw (front_free 10 b (c ∷ t) h, last_line c t (rest_free 10 b (c ∷ t) h)) refl
 
+-- a line that is cut at its first space
+pub first_of_tokens : (line t bs : List ℕ) → line ≡ t ++ 32 ∷ bs → All (λ x. x ≢ 32) t → tokens line ≡ t ∷ tokens bs
+first_of_tokens line t bs e h = ap tokens e ∙ first_token t bs h
+
 -- a text that is cut at its first newline, and one that has none
 pub first_of_lines : (bytes t bs : List ℕ) → bytes ≡ t ++ 10 ∷ bs → All (λ x. x ≢ 10) t → lines bytes ≡ record { text = t; ended = true } ∷ lines bs
 first_of_lines bytes t bs e h = ap lines e ∙ first_line t bs h
