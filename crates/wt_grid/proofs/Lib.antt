@@ -19,5 +19,7 @@ pub mod CarriedSides
 pub mod CarriedGrids
 pub mod Traces
 pub mod TraceSteps
+pub mod Vectors
+pub mod SingleImages
 pub mod Widths
 pub mod Periods
