@@ -2,6 +2,7 @@
 #![tactic(auto)]
 
 mod borrowed;
+mod copy;
 mod good;
 mod law;
 mod link;
@@ -14,6 +15,7 @@ mod shape;
 mod step;
 
 pub use borrowed::{LinkRef, RestrictRef};
+pub use copy::copy_link;
 pub use good::{Step, StepRef, accept_step};
 pub use law::{cores_are_plain, desubstitutes, good_restricts, good_steps, restricts};
 pub use link::{Link, accept_link, link_fault};
