@@ -8,6 +8,7 @@ mod parts;
 mod pattern;
 mod periods;
 mod rows;
+mod text;
 mod validity;
 mod window;
 
@@ -16,6 +17,7 @@ pub use parts::{core, part};
 pub use pattern::Pattern;
 pub use periods::period_fault;
 pub use rows::tiles_at;
+pub use text::{pattern_at, read_pattern, read_set};
 pub use validity::{tiles_fault, valid};
 pub use window::window_shape;
 pub use wt_line::{TextFault, What};
