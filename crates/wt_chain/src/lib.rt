@@ -11,4 +11,4 @@ mod version;
 pub use accepted::Accepted;
 pub use faults::chain_fault;
 pub use raw::{End, RawChain, Refusal, Version};
-pub use sets::same_set;
+pub use sets::{coarse_set, fine_set, same_set};
