@@ -1,5 +1,5 @@
 // The first number of a list that spoils it as a renaming.
-ghost use Rattle.std.specs.Prelude.{◌≡◌, ◌<◌, ◌≤◌, nat_eq, length, None, Some, MatchResult};
+ghost use Rattle.std.specs.Prelude.{◌≡◌, ◌<◌, ◌≤◌, nat_eq, length, None, Some, MatchResult, IfSome, IfErr};
 ghost use Rattle.wt_grid.specs.Order.{has};
 ghost use Rattle.wt_bijection.specs.Renaming.{pairs_up, tiles_pair_up, colours_fit as fit_colours, partner_fits as fits_partner, first_wrong, renaming_fault as first_fault};
 
@@ -47,7 +47,12 @@ fn colours_fit(from: &[Tile], to: &[Tile], list: &[u16], i: u16) -> bool
     for j in 0..i + 1 {
         let tile = tile_at(from, i);
         let partner = tile_at(to, list[usize::from(i)]);
-        if !tiles_agree(tile_at(from, j), tile, tile_at(to, list[usize::from(j)]), partner) {
+        if !tiles_agree(
+            tile_at(from, j),
+            tile,
+            tile_at(to, list[usize::from(j)]),
+            partner,
+        ) {
             return false;
         }
     }
@@ -69,7 +74,8 @@ fn partner_fits(from: &[Tile], to: &[Tile], list: &[u16], i: u16) -> bool
 fn wrong_number(from: &[Tile], to: &[Tile], list: &[u16]) -> Option<usize>
     requires few { length from.now ≤ 256 }
     requires whole { length from.now ≡ length list.now }
-    ensures { result ≡ first_wrong from.now to.now list.now }
+    ensures value { result ≡ first_wrong from.now to.now list.now }
+    ensures small { IfSome result (λ i. i < 256) }
 {
     for i in 0..from.len() as u16 {
         if !partner_fits(from, to, list, i) {
@@ -83,9 +89,10 @@ fn wrong_number(from: &[Tile], to: &[Tile], list: &[u16]) -> Option<usize>
 /// Where the two sets and the list differ in length, the fault is the least of the three lengths. Else it is the first i whose number is no tile of `to`, came before, or has colours that disagree with a one-to-one pairing made by the tiles 0 to i.
 #[tactic(auto, unfolding(crate::specs::Renaming::renaming_fault))]
 pub fn check_renaming(from: SetRef<'_>, to: SetRef<'_>, list: &[u16]) -> Result<(), usize>
-    ensures { MatchResult result
+    ensures exact { MatchResult result
         (λ _. first_fault from.entry.list.now.tiles to.entry.list.now.tiles list.now ≡ None)
         (λ i. first_fault from.entry.list.now.tiles to.entry.list.now.tiles list.now ≡ Some i) }
+    ensures small { IfErr result (λ i. i ≤ 256) }
 {
     let from = from.tiles();
     let to = to.tiles();

@@ -1,5 +1,6 @@
 pub mod First
 pub mod Order
+pub mod Keys
 pub mod Grids
 pub mod Parts
 pub mod Bridge
@@ -14,5 +15,11 @@ pub mod Runs
 pub mod Images
 pub mod ImageGrids
 pub mod Carried
+pub mod CarriedSides
+pub mod CarriedGrids
+pub mod Traces
+pub mod TraceSteps
+pub mod Vectors
+pub mod SingleImages
 pub mod Widths
 pub mod Periods

@@ -32,10 +32,10 @@ same_cells g h ig ih w ht e =
     same_record g.width h.width g.height h.height g.cells h.cells w ht same
 
 -- and by its lines
-first_line : (axis : Axis) (g : Grid) → 1 ≤ along axis g → length (get_or (lines axis g) 0 []) ≡ across axis g
+pub first_line : (axis : Axis) (g : Grid) → 1 ≤ along axis g → length (get_or (lines axis g) 0 []) ≡ across axis g
 first_line axis g lt = ap length (get_or-listed (along axis g) 0 (λ i. listed (across axis g) (λ j. at axis g i j)) [] lt) ∙ length-listed (across axis g) (λ j. at axis g 0 j)
 
-line_cell : (axis : Axis) (g : Grid) (i j : ℕ) → i < along axis g → j < across axis g → get_or (get_or (lines axis g) i []) j 0 ≡ at axis g i j
+pub line_cell : (axis : Axis) (g : Grid) (i j : ℕ) → i < along axis g → j < across axis g → get_or (get_or (lines axis g) i []) j 0 ≡ at axis g i j
 line_cell axis g i j li lj =
     ap (λ (u : List ℕ). get_or u j 0) (get_or-listed (along axis g) i (λ i. listed (across axis g) (λ j. at axis g i j)) [] li)
     ∙ get_or-listed (across axis g) j (λ j. at axis g i j) 0 lj

@@ -1,5 +1,6 @@
 pub mod First
 pub mod Order
+pub mod Pairs
 pub mod Grid
 pub mod Parts
 pub mod Lines
@@ -7,3 +8,4 @@ pub mod Cuts
 pub mod Images
 pub mod Shifts
 pub mod Widths
+pub mod Traces

@@ -1,21 +1,27 @@
 // Sinks of bytes.
-ghost use Rattle.std.specs.Prelude.{◌≡◌, List, ℕ, length, Some, None, ◌<◌, ◌≤◌, IfOk, OnOk, [], vec_len, vec_capacity, take, min, OnErr};
+ghost use Rattle.std.specs.Prelude.{◌≡◌, List, ℕ, Some, None};
 ghost use Rattle.std.specs.declared.option.Option.{Option};
 ghost use Rattle.std.specs.Io.{WritesAtMost};
 ghost use Rattle.std.specs.Io.KnownBytes.{WriteAppends};
-ghost use Rattle.wt_io.specs.Causes.{HasCause, Progresses};
+ghost use Rattle.wt_io.specs.Causes.{HasCause, Progresses, count_after};
 
 use crate::Failed;
-use std::alloc::{AllocError, Global};
 use std::io::Write;
 
+/// Something that bytes go into.
+///
+/// It has two meanings: `held`, the bytes that were written so far, where it tells them, and `faults`, the count of
+/// its failures, which never falls and stays at the last value of a `u64`.
 pub trait Sink {
-    /// The bytes written so far, where the object tells them.
+    /// The bytes that were written so far, where the sink tells them.
     ghost held: { Self → Option (List ℕ) };
 
     /// How often it has failed.
     ghost faults: { Self → ℕ };
 
+    /// Appends the first bytes of a piece, and says how many: at least one, where the piece has any.
+    ///
+    /// A failure appends nothing, and comes only where the count of faults rose; without one the count stays as it was.
     fn write(&mut self, buf: &[u8]) -> Result<usize, Failed>
         ensures bound { WritesAtMost result buf.now }
         ensures moves { Progresses result buf.now }
@@ -23,89 +29,32 @@ pub trait Sink {
         ensures cause { HasCause (faults self.old) (faults self.new) result };
 }
 
-/// Bytes in memory, as many as there is room for. Each call takes one piece, and the calls of a list fail.
-#[derive(Drop)]
-pub struct MemSink {
-    bytes: Vec<u8>,
-    room: usize,
-    piece: usize,
-    fail: Vec<u64>,
-    next_fail: usize,
-    calls: u64,
-    faults: u64,
-    ghost takes_some: { 0 < piece },
-    ghost within: { length bytes.items ≤ room },
-    ghost roomy: { room ≤ vec_capacity bytes },
-}
+/// Takes everything and keeps nothing. It tells no bytes and never fails.
+#[derive(Clone, Copy, Debug)]
+pub struct NullSink;
 
-impl MemSink {
-    pub fn new(
-        alloc: Global,
-        room: usize,
-        piece: usize,
-        fail: Vec<u64>,
-    ) -> Result<MemSink, AllocError>
-        requires { 0 < piece }
-        ensures { IfOk result (λ s. (s.bytes.items ≡ []) × (s.room ≡ room)) }
-    {
-        Ok(MemSink {
-            bytes: Vec::with_capacity(alloc, room)?,
-            room,
-            piece,
-            fail,
-            next_fail: 0,
-            calls: 0,
-            faults: 0,
-        })
-    }
+impl Sink for NullSink {
+    ghost use Rattle.std.specs.Prelude.{length, Ok};
 
-    pub fn held(&self) -> &[u8]
-        ensures { result.now ≡ self.now.bytes.items }
-    {
-        &self.bytes
-    }
+    ghost held = { λ s. None };
 
-    fn is_failing(&mut self) -> bool
-        ensures bytes { self.new.bytes ≡ self.old.bytes }
-        ensures faults { self.new.faults ≡ self.old.faults }
+    ghost faults = { λ s. 0 };
+
+    fn write(&mut self, buf: &[u8]) -> Result<usize, Failed>
+        ensures bound { WritesAtMost result buf.now }
+        ensures moves { Progresses result buf.now }
+        ensures bytes { WriteAppends None None result buf.now }
+        ensures cause { HasCause 0 0 result }
+        ensures all { result ≡ Ok (length buf.now) }
     {
-        let call = self.calls;
-        self.calls = self.calls.saturating_add(1);
-        let next = self.next_fail;
-        if next < self.fail.len() && self.fail[next] == call {
-            self.next_fail = next + 1;
-            return true;
-        }
-        false
+        Ok(buf.len())
     }
 }
 
-impl Sink for MemSink {
-    ghost held = { λ s. Some s.bytes.items };
-
-    ghost faults = { λ s. s.faults };
-
-    fn write(&mut self, buf: &[u8]) -> Result<usize, Failed> {
-        if buf.is_empty() {
-            return Ok(0);
-        }
-        let is_failing = self.is_failing();
-        if is_failing || self.bytes.len() >= self.room {
-            self.faults = self.faults.saturating_add(1);
-            return Err(Failed);
-        }
-        let count = buf.len().min(self.piece).min(self.room - self.bytes.len());
-        match self.bytes.extend_from_slice(&buf[..count]) {
-            Ok(()) => Ok(count),
-            Err(_) => {
-                self.faults = self.faults.saturating_add(1);
-                Err(Failed)
-            }
-        }
-    }
-}
-
-/// Any writer of std. It tells no bytes.
+/// Any writer of std, such as the standard output. It tells no bytes. It counts each error of the writer, and each
+/// write of a piece of which the writer took nothing.
+///
+/// Where the bytes go is the trusted edge.
 #[derive(Drop)]
 pub struct StdSink<W: Write> {
     inner: W,
@@ -113,7 +62,10 @@ pub struct StdSink<W: Write> {
 }
 
 impl<W: Write> StdSink<W> {
-    pub fn new(inner: W) -> Self {
+    /// A sink over a writer, with no fault so far.
+    pub fn new(inner: W) -> Self
+        ensures { result.faults ≡ 0 }
+    {
         StdSink { inner, faults: 0 }
     }
 }
@@ -123,7 +75,13 @@ impl<W: Write> Sink for StdSink<W> {
 
     ghost faults = { λ s. s.faults };
 
-    fn write(&mut self, buf: &[u8]) -> Result<usize, Failed> {
+    fn write(&mut self, buf: &[u8]) -> Result<usize, Failed>
+        ensures bound { WritesAtMost result buf.now }
+        ensures moves { Progresses result buf.now }
+        ensures bytes { WriteAppends None None result buf.now }
+        ensures cause { HasCause self.old.faults self.new.faults result }
+        ensures counted { self.new.faults ≡ count_after self.old.faults result }
+    {
         match self.inner.write(buf) {
             Ok(count) if count > 0 || buf.is_empty() => Ok(count),
             _ => {

@@ -1,5 +1,5 @@
 -- What the answers of the code say of what is read.
-use Rattle.std.specs.Prelude.{◌≡◌, ℕ, Bool, true, false, List, [], ◌∷◌, Option, None, Some, Result, Ok, Err}
+use Rattle.std.specs.Prelude.{◌≡◌, ℕ, true, false, List, [], ◌∷◌, Option, None, Some, Result, Ok, Err}
 use Rattle.wt_line.specs.declared.faults.What.{What}
 use Rattle.wt_line.specs.declared.faults.LineFault.{LineFault}
 use Rattle.wt_line.specs.declared.faults.LineFault.TheVariants.{Wrong, Past, OutOfMemory}
@@ -63,3 +63,10 @@ abbrev pub IsSyntax : ℕ → TextFault → List Line → Type 0
 IsSyntax n (text.Syntax m) ls = (m ≡ n) × NoLine ls
 IsSyntax n (text.Limit what m) ls = ⊥
 IsSyntax n text.OutOfMemory ls = ⊥
+
+-- the text goes on where it was to end
+abbrev pub IsMore : ℕ → TextFault → List Line → Type 0
+IsMore n (text.Syntax m) (l ∷ ls) = m ≡ n
+IsMore n (text.Syntax m) [] = ⊥
+IsMore n (text.Limit what m) ls = ⊥
+IsMore n text.OutOfMemory ls = ⊥

@@ -1,5 +1,5 @@
 -- How values of the code stand for what is read.
-use Rattle.std.specs.Prelude.{◌≡◌, ℕ, ◌^◌, ◌-◌, min, ◌+◌, length, Bool, true, false, List, [], Option, None, Some}
+use Rattle.std.specs.Prelude.{ℕ, ◌^◌, ◌-◌, min, ◌+◌, length, Bool, true, false, List, [], Option, None, Some}
 use Rattle.wt_text.specs.Words.{tokens}
 
 -- the tokens that are left

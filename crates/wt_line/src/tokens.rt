@@ -6,15 +6,19 @@ ghost use Rattle.wt_line.specs.Given.{left, room};
 ghost use Rattle.wt_line.specs.Faults.{ReadsTokens, IsWrong};
 
 use crate::faults::LineFault;
+use wt_io::cut;
 
-/// The tokens of a line that are left: none, or those of its last part.
+/// The tokens of a line that are left: those of its last part, or none.
 #[derive(Clone, Copy)]
 pub struct Rest<'a> {
+    /// The last part of the line, which holds the tokens that are left.
     pub line: &'a [u8],
+    /// Whether any token is left. An empty part still has one, which is empty.
     pub more: bool,
 }
 
 impl<'a> Rest<'a> {
+    /// All tokens of a line.
     pub fn new(line: &'a [u8]) -> Rest<'a>
         ensures { left result.more result.line.now ≡ tokens line.now }
     {
@@ -22,31 +26,25 @@ impl<'a> Rest<'a> {
     }
 }
 
-#[tactic(auto, using(crate::proofs::Parts::starts, crate::proofs::Parts::goes_on, crate::proofs::Parts::space_ends, crate::proofs::Parts::line_ends))]
+// The first token of a line, and what is left behind it.
+#[tactic(auto, using(wt_io::proofs::Cuts::first_of_tokens, wt_io::proofs::Cuts::one_token))]
 fn first_part(line: &[u8]) -> (&[u8], Rest<'_>)
     ensures first { tokens line.now ≡ result.0.now ∷ left result.1.more result.1.line.now }
     ensures fewer { room result.1.more result.1.line.now ≤ length line.now }
 {
-    for (i, b) in line.iter().enumerate() {
-        if *b == b' ' {
-            return (
-                &line[..i],
-                Rest {
-                    line: &line[i + 1..],
-                    more: true,
-                },
-            );
-        }
+    match cut(line, b' ') {
+        Some((token, line)) => (token, Rest { line, more: true }),
+        None => (
+            line,
+            Rest {
+                line: &line[line.len()..],
+                more: false,
+            },
+        ),
     }
-    (
-        line,
-        Rest {
-            line: &line[line.len()..],
-            more: false,
-        },
-    )
 }
 
+/// The next token, and the tokens behind it; None exactly where none is left.
 pub fn next_token(rest: Rest<'_>) -> Option<(&[u8], Rest<'_>)>
     ensures first { MatchOption result (left rest.entry.more rest.entry.line.now ≡ []) (λ x. left rest.entry.more rest.entry.line.now ≡ x.0.now ∷ left x.1.more x.1.line.now) }
     ensures fewer { IfSome result (λ x. room x.1.more x.1.line.now < room rest.entry.more rest.entry.line.now) }
@@ -58,7 +56,7 @@ pub fn next_token(rest: Rest<'_>) -> Option<(&[u8], Rest<'_>)>
     }
 }
 
-/// What stands behind a word.
+/// The tokens behind a word. `Wrong` comes exactly where the next token is not this word.
 pub fn word<'a>(word: &str, rest: Rest<'a>) -> Result<Rest<'a>, LineFault>
     ensures { ReadsTokens (λ r. left r.more r.line.now) result (after word.now (left rest.entry.more rest.entry.line.now)) }
 {
@@ -72,6 +70,7 @@ pub fn word<'a>(word: &str, rest: Rest<'a>) -> Result<Rest<'a>, LineFault>
     }
 }
 
+/// Nothing is left of a line. `Wrong` comes exactly where a token is.
 pub fn line_end(rest: Rest<'_>) -> Result<(), LineFault>
     ensures { MatchResult result (λ _. left rest.entry.more rest.entry.line.now ≡ []) (λ e. IsWrong e (left rest.entry.more rest.entry.line.now)) }
 {

@@ -13,7 +13,7 @@ place_among x (y ∷ ys) h = go (bytes_eq x y) (is_among x ys) (place_among x ys
     go true c r k = omega arith
     go false c r k = omega (arith, r k)
 
-place_new : (x : List ℕ) (ys : List (List ℕ)) → is_among x ys ≡ false → place x ys ≡ length ys
+pub place_new : (x : List ℕ) (ys : List (List ℕ)) → is_among x ys ≡ false → place x ys ≡ length ys
 place_new x [] h = refl
 place_new x (y ∷ ys) h = go (bytes_eq x y) (is_among x ys) (place_new x ys) h
   where

@@ -1,4 +1,10 @@
-pub mod Patterns
 pub mod Shape
-pub mod TileRows
+pub mod Patterns
 pub mod Windows
+pub mod Validity
+pub mod Rows
+pub mod Periods
+pub mod TileRows
+pub mod Numbered
+pub mod PatternRows
+pub mod Cells

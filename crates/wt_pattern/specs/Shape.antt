@@ -1,9 +1,10 @@
 -- The shapes that a pattern may have, and the first fault of another.
-use Rattle.std.specs.Prelude.{ℕ, ◌*◌, ◌≤◌, Option, None, Some, ◌||◌, not, nat_eq, nat_lt, if◌then◌else◌}
+use Rattle.std.specs.Prelude.{ℕ, ◌+◌, ◌*◌, ◌≤◌, Bool, ◌&&◌, Option, None, Some, ◌||◌, not, nat_eq, nat_lt, nat_le, if◌then◌else◌}
 use Rattle.wt_grid.specs.Grid.{Grid, IsGrid}
 use Rattle.wt_pattern.specs.declared.fault.ShapeFault.{ShapeFault}
 use Rattle.wt_pattern.specs.declared.fault.ShapeFault.TheVariants.{Zero, TooLarge, Count}
 
+-- the first fault of a width, a height and a number of cells
 abbrev pub shape_fault : ℕ → ℕ → ℕ → Option ShapeFault
 shape_fault w h n =
     if nat_eq w 0 || nat_eq h 0 then Some Zero
@@ -16,3 +17,7 @@ pub record IsShape (g : Grid) : Type 0 where
   pub grid : IsGrid g
   pub wide : g.width ≤ 4096
   pub high : g.height ≤ 4096
+
+-- the w by h cells from (x, y) on are some, and lie in the rectangle
+abbrev pub holds_part : Grid → ℕ → ℕ → ℕ → ℕ → Bool
+holds_part g x y w h = nat_lt 0 w && nat_lt 0 h && nat_le (x + w) g.width && nat_le (y + h) g.height

@@ -1,8 +1,23 @@
-//! Patterns: rectangles of tile numbers.
+//! Patterns: rectangles of tile numbers, their parts, the first fault of one that isn't valid, periods, and their text.
 #![tactic(auto)]
 
+mod cells;
 mod fault;
+mod neighbours;
+mod parts;
 mod pattern;
+mod periods;
+mod rows;
+mod text;
+mod validity;
+mod window;
 
-pub use fault::{Fault, ShapeFault};
+pub use fault::{Fault, PartFault, ShapeFault};
+pub use parts::{core, part};
 pub use pattern::Pattern;
+pub use periods::period_fault;
+pub use rows::tiles_at;
+pub use text::{pattern_at, read_pattern, read_set};
+pub use validity::{tiles_fault, valid};
+pub use window::window_shape;
+pub use wt_line::{TextFault, What};

@@ -1,13 +1,15 @@
 // A rectangle of tile numbers.
-ghost use Rattle.std.specs.Prelude.{◌≡◌, ◌+◌, ◌*◌, ◌<◌, ◌≤◌, ◌≢◌, ◌⊎◌, MatchResult, slice_range, vec_len};
+ghost use Rattle.std.specs.Prelude.{◌≡◌, ◌+◌, ◌*◌, ◌<◌, ◌≤◌, MatchResult, slice_range, vec_len, length};
 ghost use Rattle.wt_grid.specs.Grid.{Grid, IsGrid, cell};
 ghost use Rattle.wt_pattern.specs.Shape.{shape_fault, IsShape};
 
 use crate::ShapeFault;
 use std::marker::Model;
 
-pub const MAX_SIDE: usize = 4096;
+const MAX_SIDE: usize = 4096;
 
+/// A rectangle of 1 to 4096 by 1 to 4096 numbers of tiles. Row 0 is the bottom row, and cells are kept
+/// in reading order: row by row, each from left to right. Seen by contracts as a `Grid`.
 #[derive(Drop)]
 pub struct Pattern {
     width: usize,
@@ -27,12 +29,13 @@ impl Model for Pattern {
 }
 
 impl Pattern {
+    /// The pattern with these cells in reading order, or the cells and what is wrong: Zero, then TooLarge, then Count. Takes no memory.
     pub fn new(
         width: usize,
         height: usize,
         cells: Vec<u16>,
     ) -> Result<Pattern, (Vec<u16>, ShapeFault)>
-        ensures ok { MatchResult result
+        ensures { MatchResult result
             (λ p. (p ≡ record { width = width; height = height; cells = cells.items }) × (shape_fault width height (vec_len cells) ≡ None))
             (λ e. (e.0.items ≡ cells.items) × (shape_fault width height (vec_len cells) ≡ Some e.1)) }
     {
@@ -52,6 +55,19 @@ impl Pattern {
         })
     }
 
+    /// The pattern with these cells in reading order, which are known to fill it. Takes no memory.
+    pub fn of(width: usize, height: usize, cells: Vec<u16>) -> Pattern
+        requires { IsShape (record { width = width; height = height; cells = cells.items }) }
+        ensures { result ≡ record { width = width; height = height; cells = cells.items } }
+    {
+        Pattern {
+            width,
+            height,
+            cells,
+        }
+    }
+
+    /// How many cells a row has: 1 to 4096.
     pub fn width(&self) -> usize
         ensures value { result ≡ self.now.width }
         ensures shape { IsShape self.now }
@@ -59,6 +75,7 @@ impl Pattern {
         self.width
     }
 
+    /// How many rows there are: 1 to 4096.
     pub fn height(&self) -> usize
         ensures value { result ≡ self.now.height }
         ensures shape { IsShape self.now }
@@ -66,6 +83,7 @@ impl Pattern {
         self.height
     }
 
+    /// The number at column x of row y, which is inside.
     pub fn cell(&self, x: usize, y: usize) -> u16
         requires inside_x { x < self.now.width }
         requires inside_y { y < self.now.height }
@@ -74,11 +92,20 @@ impl Pattern {
         self.cells[y * self.width + x]
     }
 
+    /// The cells of row y, which is inside, from left to right.
     pub fn row(&self, y: usize) -> &[u16]
         requires { y < self.now.height }
-        ensures { result.now ≡ slice_range self.now.cells (y * self.now.width) (y * self.now.width + self.now.width) }
+        ensures cells { result.now ≡ slice_range self.now.cells (y * self.now.width) (y * self.now.width + self.now.width) }
+        ensures len { length result.now ≡ self.now.width }
     {
         let start = y * self.width;
         &self.cells[start..start + self.width]
+    }
+
+    /// The cells in reading order. Takes no memory.
+    pub fn into_cells(self) -> Vec<u16>
+        ensures { result.items ≡ self.cells }
+    {
+        self.cells
     }
 }

@@ -1,5 +1,5 @@
 -- What a tree without a wrong node says of patterns.
-use Rattle.std.proofs.Common.{arith, ◌≡◌, ◌↔◌, ℕ, zero, suc, ◌+◌, ◌-◌, ◌*◌, ◌<◌, ◌≤◌, List, [], ◌∷◌, Option, None, Some, refl, sym, ◌∙◌, ap}
+use Rattle.std.proofs.Common.{arith, ◌≡◌, ◌↔◌, ℕ, zero, suc, ◌+◌, ◌-◌, ◌*◌, ◌<◌, ◌≤◌, List, [], ◌∷◌, length, true, subst, Option, None, Some, refl, sym, ◌∙◌, ap}
 use Rattle.std.specs.Prelude.{slice_get}
 use Rattle.std.specs.Option.{option_map}
 use Rattle.wt_tile.specs.declared.tile.Tile.{Tile}
@@ -18,6 +18,9 @@ use Rattle.wt_refute.specs.Refutes.{Refutes, first_wrong, tree_fault, tile_tree_
 use Rattle.wt_refute.proofs.Filling.{cells_fill, filled_part, unfilled_empty, empty_unfilled}
 use Rattle.wt_refute.proofs.Empty.{AreUnfilledBelow, refuted_empty, tile_excluded}
 use Rattle.wt_refute.proofs.Wrong.{none_refutes}
+use Rattle.wt_tile.specs.Matching.{matches}
+use Rattle.wt_refute.specs.Standard.{standard_tree}
+use Rattle.wt_refute.proofs.Built.{tree_refutes}
 
 held_none : (o : Option ℕ) → option_map held o ≡ None → o ≡ None
 held_none None e = refl
@@ -72,3 +75,10 @@ absent ts tile radius tree e p h x y lx ly same =
     let ex : x + radius ≡ radius + x = omega arith in
     let ey : y + radius ≡ radius + y = omega arith in
     tile_excluded ts tile radius (refutation tree) ((no_tile_fault ts tile radius tree).0 e) (λ i j. cell p (x + i) (y + j)) part (rw (ex, ey) (sym at ∙ same))
+
+pub standard_right : (ts : List Tile) (axis : Axis) (a b radius : ℕ) (known : List Refuted) (tree : Tree)
+    → a < length ts → b < length ts → matches ts axis a b ≡ true → IsEmptyWindow ts axis a b radius
+    → refutation tree ≡ standard_tree ts axis a b radius known → tree_fault ts axis a b radius known tree ≡ None
+standard_right ts axis a b radius known tree la lb m e same =
+    (no_fault ts axis a b radius known tree).1
+    (subst (Refutes ts radius known (window_of axis a b radius)) (sym same) (tree_refutes ts axis a b radius known la lb m (empty_unfilled ts axis a b radius e)))

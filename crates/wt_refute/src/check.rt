@@ -1,11 +1,13 @@
 // The checker of refutation trees.
-ghost use Rattle.std.specs.Prelude.{◌≡◌, ℕ, ◌+◌, ◌-◌, ◌*◌, ◌^◌, ◌<◌, ◌≤◌, [], ◌∷◌, length, MatchOption, MatchResult, None, Some, replicate, slice_set};
+ghost use Rattle.std.specs.Prelude.{◌≡◌, ℕ, ◌+◌, ◌-◌, ◌*◌, ◌^◌, ◌<◌, ◌≤◌, [], ◌∷◌, length, MatchResult, None, Some, replicate, true};
 ghost use Rattle.std.specs.Option.{option_map};
 ghost use Rattle.wt_refute.specs.Refutation.{node_count, tiles_in, held};
 ghost use Rattle.wt_refute.specs.View.{refutation, children_view};
 ghost use Rattle.wt_refute.specs.Placed.{placed, window_shape, window_of, tile_window, next_cell as cell_beside};
-ghost use Rattle.wt_refute.specs.Refutes.{lies_inside as is_inside, serves as it_serves, next_placed as the_next, is_cited as cited, is_branching as branching, first_wrong, tree_fault, tile_tree_fault};
+ghost use Rattle.wt_refute.specs.Entries.{ascends};
+ghost use Rattle.wt_refute.specs.Refutes.{lies_inside as is_inside, next_placed as the_next, is_cited as cited, is_branching as branching, first_wrong, tree_fault, tile_tree_fault};
 
+use crate::known::has_entry;
 use crate::window::{above, is_free, next_fitting, right_of, shape_of, tile_in};
 use crate::{Child, Refuted, Tree};
 use wt_tile::{Axis, SetRef, Tile, same_axis};
@@ -28,26 +30,6 @@ fn lies_inside(shape: (usize, usize), cell: usize, axis: Axis, radius: u8) -> bo
     radius <= x && radius <= y && x - radius + inner.0 <= shape.0 && y - radius + inner.1 <= shape.1
 }
 
-fn serves(
-    radius: u8,
-    shape: (usize, usize),
-    cell: usize,
-    axis: Axis,
-    a: u16,
-    b: u16,
-    entry: &Refuted,
-) -> bool
-    requires wide { 0 < shape.0 }
-    requires low { cell < 2 ^ 32 }
-    ensures { result ≡ it_serves radius shape.0 shape.1 cell axis a b entry.now }
-{
-    same_axis(entry.axis, axis)
-        && entry.a == a
-        && entry.b == b
-        && entry.radius < radius
-        && lies_inside(shape, cell, axis, entry.radius)
-}
-
 fn next_placed(shape: (usize, usize), cells: &[Option<u16>], cell: usize, axis: Axis) -> Option<u16>
     requires wide { 0 < shape.0 }
     requires small { shape.0 < 2 ^ 32 }
@@ -60,7 +42,9 @@ fn next_placed(shape: (usize, usize), cells: &[Option<u16>], cell: usize, axis: 
     }
 }
 
-fn is_cited(
+/// Whether a known entry of lower radius says that the tiles at the cell and next to it can't stand there.
+#[tactic(auto, using(crate::proofs::Cited::cited_more))]
+pub fn is_cited(
     radius: u8,
     known: &[Refuted],
     shape: (usize, usize),
@@ -71,6 +55,7 @@ fn is_cited(
     requires wide { 0 < shape.0 }
     requires small { shape.0 < 2 ^ 32 }
     requires low { cell < 2 ^ 32 }
+    requires in_order { ascends known.now ≡ true }
     ensures { result ≡ cited radius known.now (placed shape cells.now) cell axis }
 {
     let Some(a) = tile_in(shape, cells, cell) else {
@@ -79,8 +64,8 @@ fn is_cited(
     let Some(b) = next_placed(shape, cells, cell, axis) else {
         return false;
     };
-    for entry in known {
-        if serves(radius, shape, cell, axis, a, b, entry) {
+    for below in 0..radius {
+        if lies_inside(shape, cell, axis, below) && has_entry(below, axis, a, b, known) {
             return true;
         }
     }
@@ -128,6 +113,7 @@ fn walk(
     requires wide { 0 < shape.0 }
     requires small { shape.0 < 2 ^ 32 }
     requires few { length tiles.now ≤ 65536 }
+    requires in_order { ascends known.now ≡ true }
     ensures same { cells.new ≡ cells.old }
     ensures judged { MatchResult result
         (λ count. (first_wrong tiles.now radius known.now (placed shape cells.old) (refutation tree.now) ≡ None) × (count ≡ held (node_count (refutation tree.now))))
@@ -166,7 +152,7 @@ fn walk(
 }
 
 /// Places two tiles in the middle of their free window.
-fn place_pair(
+pub fn place_pair(
     axis: Axis,
     a: u16,
     b: u16,
@@ -194,14 +180,14 @@ fn next_cell(axis: Axis, width: usize, cell: usize) -> usize
     }
 }
 
-fn free_cells() -> [Option<u16>; 90]
+pub fn free_cells() -> [Option<u16>; 90]
     ensures { result ≡ replicate 90 None }
 {
     [None; 90]
 }
 
 /// Judges a tree for the window of radius `radius` round a and b, b following a along the axis, with these
-/// known entries: the first node, in preorder from 0, that names a wrong cell, has other tiles than those
+/// known entries, which ascend by radius, axis, first and second tile: the first node, in preorder from 0, that names a wrong cell, has other tiles than those
 /// that fit, or cites what no known entry of lower radius says. Takes no memory.
 #[tactic(auto, using(wt_tile::proofs::Sizes::few_tiles))]
 pub fn check_tree(
@@ -213,7 +199,8 @@ pub fn check_tree(
     known: &[Refuted],
     tree: &Tree,
 ) -> Result<(), TreeFault>
-    requires { radius ≤ 4 }
+    requires radius { radius ≤ 4 }
+    requires in_order { ascends known.now ≡ true }
     ensures { MatchResult result
         (λ _. tree_fault set.entry.list.now.tiles axis a b radius known.now tree.now ≡ None)
         (λ fault. tree_fault set.entry.list.now.tiles axis a b radius known.now tree.now ≡ Some fault.node) }
@@ -234,6 +221,7 @@ fn check_pair(
 ) -> Result<(), TreeFault>
     requires radius { radius ≤ 4 }
     requires few { length tiles.now ≤ 256 }
+    requires in_order { ascends known.now ≡ true }
     ensures { MatchResult result
         (λ _. tree_fault tiles.now axis a b radius known.now tree.now ≡ None)
         (λ fault. tree_fault tiles.now axis a b radius known.now tree.now ≡ Some fault.node) }
@@ -251,12 +239,7 @@ fn check_pair(
 /// Judges a tree for the square window of radius `radius` round a tile, with no known entries: the first
 /// node, in preorder from 0, that names a wrong cell, has other tiles than those that fit, or cites.
 /// Takes no memory.
-pub fn check_tile_tree(
-    set: SetRef<'_>,
-    tile: u16,
-    radius: u8,
-    tree: &Tree,
-) -> Result<(), TreeFault>
+pub fn check_tile_tree(set: SetRef<'_>, tile: u16, radius: u8, tree: &Tree) -> Result<(), TreeFault>
     requires { radius ≤ 4 }
     ensures { MatchResult result
         (λ _. tile_tree_fault set.entry.list.now.tiles tile radius tree.now ≡ None)

@@ -29,11 +29,11 @@ use Rattle.wt_pattern.specs.Patterns.{IsPattern}
 use Rattle.wt_step.proofs.Tables.{good_table, some_of, same_itself, not_other}
 use Rattle.wt_step.proofs.Cores.{core_allowed}
 
-tile_grid : (axis : Axis) → tile_axis (grid_axis axis) ≡ axis
+pub tile_grid : (axis : Axis) → tile_axis (grid_axis axis) ≡ axis
 tile_grid One = refl
 tile_grid Two = refl
 
-tile_other : (axis : Axis) → tile_axis (other_grid (grid_axis axis)) ≡ other axis
+pub tile_other : (axis : Axis) → tile_axis (other_grid (grid_axis axis)) ≡ other axis
 tile_other One = refl
 tile_other Two = refl
 
@@ -57,7 +57,7 @@ matched_pieces ts axis (Double a b) (Single c) m = absurd m
 matched_pieces ts axis (Double a b) (Double c d) m = rw (m.0, m.1) refl
 
 module _ (s : RawStep) (g : GoodStep s) where
-  count_images : length s.images ≡ length s.coarse.tiles
+  pub count_images : length s.images ≡ length s.coarse.tiles
   count_images = let e = (both (nat_eq (length s.images) (length s.coarse.tiles)) (all_of (image_fits (length s.fine.tiles)) s.images) g.shaped.images).0 in grind (arith, nat_tests, e)
 
   -- coarse tiles match where their images do

@@ -144,7 +144,7 @@ module _ (s : RawStep) (g : GoodStep s) where
   distinct i j (one a) e f = one_image i j (Single a) (from_piece (slice_get s.images i) a (sym (slice_get-map piece s.images i) ∙ e)) (from_piece (slice_get s.images j) a (sym (slice_get-map piece s.images j) ∙ f))
   distinct i j (two a b) e f = one_image i j (Double a b) (from_pieces (slice_get s.images i) a b (sym (slice_get-map piece s.images i) ∙ e)) (from_pieces (slice_get s.images j) a b (sym (slice_get-map piece s.images j) ∙ f))
 
-  in_range : (axis : Axis) (a b : ℕ) → allows s axis a b ≡ true → (a < length s.fine.tiles) × (b < length s.fine.tiles)
+  pub in_range : (axis : Axis) (a b : ℕ) → allows s axis a b ≡ true → (a < length s.fine.tiles) × (b < length s.fine.tiles)
   in_range axis a b h = fits_at (length s.fine.tiles) (allowed s axis) a b (g.shaped.allowed axis) h
 
   placed : (x : Image) (y : Image) (i : ℕ) (p : Piece) → slice_get s.images i ≡ Some y → y ≡ x → piece x ≡ p → slice_get (pieces s) i ≡ Some p

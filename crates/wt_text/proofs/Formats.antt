@@ -101,7 +101,7 @@ both_format {W} {A} {B} {ra} {sa} {Fa} {rb} {sb} {Fb} f g = record {
   clean = λ x fits. clean_both (sa x.0) (sb x.1) (f.clean x.0 fits.0) (g.clean x.1 fits.1);
 }
 
-joined_ok : {W A : Type 0} (a : Result A W) (r : Result (List A) W) (xs : List A) → joined a r ≡ Ok xs → (x : A) × (ys : List A) × (xs ≡ x ∷ ys) × (a ≡ Ok x) × (r ≡ Ok ys)
+pub joined_ok : {W A : Type 0} (a : Result A W) (r : Result (List A) W) (xs : List A) → joined a r ≡ Ok xs → (x : A) × (ys : List A) × (xs ≡ x ∷ ys) × (a ≡ Ok x) × (r ≡ Ok ys)
 joined_ok (Ok a) (Ok as') xs e = (a, as', cc, refl, refl)
 joined_ok (Ok a) (Err w) xs e = absurd cc
 joined_ok (Err w) r xs e = absurd cc
@@ -133,7 +133,7 @@ pub record IsLine {W A : Type 0} (read : List (List ℕ) → Result A (LineFault
   pub found : (ts : List (List ℕ)) (x : A) → read ts ≡ Ok x → (ts ≡ spell x) × Fits x
   pub again : (x : A) → Fits x → read (spell x) ≡ Ok x
   pub clean : (x : A) → Fits x → AllFit IsClean (spell x)
-  pub some : (x : A) → IsSome (spell x)
+  pub some : (x : A) → Fits x → IsSome (spell x)
 
 append_nil : {A : Type 0} (x : List A) → x ++ [] ≡ x
 append_nil [] = refl
@@ -149,12 +149,16 @@ judge_ok {W} {A} (Some y) x e = go y.0 y.1 e
     go (Ok a) (t ∷ ts) h = absurd cc
     go (Err w) (t ∷ ts) h = absurd cc
 
-pub whole_line : {W A : Type 0} {read : List (List ℕ) → Option (Result A W × List (List ℕ))} {spell : A → List (List ℕ)} {Fits : A → Type 0}
-    → ((x : A) → IsSome (spell x)) → IsFormat read spell Fits → IsLine (whole read) spell Fits
+pub fit_line : {W A : Type 0} {read : List (List ℕ) → Option (Result A W × List (List ℕ))} {spell : A → List (List ℕ)} {Fits : A → Type 0}
+    → ((x : A) → Fits x → IsSome (spell x)) → IsFormat read spell Fits → IsLine (whole read) spell Fits
 unfolding whole
-whole_line {read = read} {spell = spell} some f = record {
+fit_line {read = read} {spell = spell} some f = record {
   found = λ ts x e. let g = f.found ts x [] (judge_ok (read ts) x e) in (g.0 ∙ append_nil (spell x), g.1);
   again = λ x fits. let e : read (spell x) ≡ Some (Ok x, []) = ap read (sym (append_nil (spell x))) ∙ f.again x [] fits in rw e refl;
   clean = f.clean;
   some = some;
 }
+
+pub whole_line : {W A : Type 0} {read : List (List ℕ) → Option (Result A W × List (List ℕ))} {spell : A → List (List ℕ)} {Fits : A → Type 0}
+    → ((x : A) → IsSome (spell x)) → IsFormat read spell Fits → IsLine (whole read) spell Fits
+whole_line some f = fit_line (λ x fits. some x) f

@@ -59,7 +59,7 @@ whole_last {read = read} {spell = spell} some f = record {
   found = λ ts x e. let g = f.found ts x [] (judge_ok (read ts) x e) in (g.0 ∙ append_nil (spell x), g.1);
   again = λ x fits. rw (f.again x fits) refl;
   clean = f.clean;
-  some = some;
+  some = λ x fits. some x;
 }
 
 -- one of two words

@@ -42,7 +42,7 @@ unfolding one_line
 line_part {W} {A} {read} {spell} {Fits} f = record {
   found = λ p x q e. found p.0 p.1 x q e;
   again = λ x n rest fits.
-      let e : read (tokens (spaced (spell x))) ≡ Ok x = ap read (tokens_spaced (spell x) (f.some x) (f.clean x fits)) ∙ f.again x fits in
+      let e : read (tokens (spaced (spell x))) ≡ Ok x = ap read (tokens_spaced (spell x) (f.some x fits) (f.clean x fits)) ∙ f.again x fits in
       (n + 1, rw e refl);
   clean = λ x fits. first_clean (spell x) (f.clean x fits);
 }
@@ -116,6 +116,16 @@ module _ {W A S : Type 0} {read : S → ℕ × List Line → Result (A × (ℕ �
   many_clean : (s : S) (xs : List A) → FitInTurn Fits next s xs → AllClean (flat spell xs)
   many_clean s [] fits = no_lines
   many_clean s (x ∷ xs) fits = clean_lines (spell x) (flat spell xs) ((f s).clean x fits.0) (many_clean (next s x) xs fits.1)
+
+  pub many_part : (s : S) (n : ℕ) → IsPart (many_parts read next s n) (flat spell) (λ xs. (length xs ≡ n) × FitInTurn Fits next s xs)
+  many_part s n = record {
+    found = λ p xs q e. let h = many_found s n p xs q e in (h.0, (h.1, h.2));
+    again = λ xs m rest fits.
+        let a = many_again s xs m rest fits.1 in
+        let P : ℕ → Type 0 = λ k. (m' : ℕ) × (many_parts read next s k (m, flat spell xs ++ rest) ≡ Ok (xs, (m', rest))) in
+        subst P fits.0 a;
+    clean = λ xs fits. many_clean s xs fits.1;
+  }
 
   pub counted_part : {count : ℕ × List Line → Result (ℕ × (ℕ × List Line)) (TextFault W)} {sc : ℕ → List Line} {Fc : ℕ → Type 0} → IsPart count sc Fc
       → (s : S) → IsPart (counted_parts count read next s) (λ xs. sc (length xs) ++ flat spell xs) (λ xs. Fc (length xs) × FitInTurn Fits next s xs)

@@ -45,6 +45,28 @@ either_word v a w b (t ∷ ts) = if bytes_eq t v then Some (Ok a, ts) else if by
 unfoldable pub behind : {W A : Type 0} → List ℕ → (List (List ℕ) → Option (Result A W × List (List ℕ))) → List (List ℕ) → Option (Result A W × List (List ℕ))
 behind w read ts = after w ts >>= read
 
+-- no token, where the value is known
+abbrev pub given : {W A : Type 0} → A → List (List ℕ) → Option (Result A W × List (List ℕ))
+given x ts = Some (Ok x, ts)
+
+abbrev pub mapped : {W A B : Type 0} → (A → B) → Result A W → Result B W
+mapped f (Ok a) = Ok (f a)
+mapped f (Err w) = Err w
+
+-- a value seen as one of another kind
+abbrev pub seen_value : {W A B : Type 0} → (A → B) → Option (Result A W × List (List ℕ)) → Option (Result B W × List (List ℕ))
+seen_value to r = r >>= λ x. Some (mapped to x.0, x.1)
+
+-- a value of one kind, or of another
+pub data Either (A B : Type 0) : Type 0 where
+  first : A → Either A B
+  second : B → Either A B
+
+-- one of two words, each with a value of its own behind it
+abbrev pub either_behind : {W A B : Type 0} → List ℕ → (List (List ℕ) → Option (Result A W × List (List ℕ))) → List ℕ → (List (List ℕ) → Option (Result B W × List (List ℕ))) → List (List ℕ) → Option (Result (Either A B) W × List (List ℕ))
+either_behind v ra w rb [] = None
+either_behind v ra w rb (t ∷ ts) = if bytes_eq t v then seen_value first (ra ts) else if bytes_eq t w then seen_value second (rb ts) else None
+
 -- one value, and then another
 unfoldable pub both : {W A B : Type 0} → (List (List ℕ) → Option (Result A W × List (List ℕ))) → (List (List ℕ) → Option (Result B W × List (List ℕ))) → List (List ℕ) → Option (Result (A × B) W × List (List ℕ))
 both ra rb ts = ra ts >>= λ a. rb a.1 >>= λ b. Some (pair a.0 b.0, b.1)
@@ -120,6 +142,11 @@ abbrev pub many_parts : {W A S : Type 0} → (S → ℕ × List Line → Result 
 many_parts read next s zero p = Ok ([], p)
 many_parts read next s (suc n) p = read s p then λ a. many_parts read next (next s a.0) n a.1 then λ as'. Ok (a.0 ∷ as'.0, as'.1)
 
+-- the state that parts have left
+abbrev pub left_by : {A S : Type 0} → (S → A → S) → S → List A → S
+left_by next s [] = s
+left_by next s (x ∷ xs) = left_by next (next s x) xs
+
 -- a count, and so many parts
 unfoldable pub counted_parts : {W A S : Type 0} → (ℕ × List Line → Result (ℕ × (ℕ × List Line)) (TextFault W)) → (S → ℕ × List Line → Result (A × (ℕ × List Line)) (TextFault W)) → (S → A → S) → S → ℕ × List Line → Result (List A × (ℕ × List Line)) (TextFault W)
 counted_parts count read next s p = count p then λ n. many_parts read next s n.0 n.1
@@ -139,3 +166,11 @@ seen_as to read p = read p then λ x. Ok (to x.0, x.1)
 -- one part, and then another that goes by the first
 unfoldable pub part_by : {W A B : Type 0} → (ℕ × List Line → Result (A × (ℕ × List Line)) (TextFault W)) → (A → ℕ × List Line → Result (B × (ℕ × List Line)) (TextFault W)) → ℕ × List Line → Result ((A × B) × (ℕ × List Line)) (TextFault W)
 part_by ra rb p = ra p then λ a. rb a.0 a.1 then λ b. Ok ((a.0, b.0), b.1)
+
+-- one part, and then what stands behind it, which goes by the first and holds it
+unfoldable pub part_behind : {W A B : Type 0} → (ℕ × List Line → Result (A × (ℕ × List Line)) (TextFault W)) → (A → ℕ × List Line → Result (B × (ℕ × List Line)) (TextFault W)) → ℕ × List Line → Result (B × (ℕ × List Line)) (TextFault W)
+part_behind ra rb p = ra p then λ a. rb a.0 a.1
+
+-- no line, where the value is known
+abbrev pub no_part : {W A : Type 0} → A → ℕ × List Line → Result (A × (ℕ × List Line)) (TextFault W)
+no_part x p = Ok (x, p)

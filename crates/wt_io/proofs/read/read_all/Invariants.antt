@@ -6,7 +6,7 @@ abbrev pub invariant-loop-all : goal.invariant-loop-all
 invariant-loop-all g l = record {
   taken : Consumes (g.S.Source.left l.initial.src) (g.S.Source.left l.src) l.all.items;
   within : vec_len l.all ≤ l.limit;
-  later : g.S.Source.faults l.initial.src ≤ g.S.Source.faults l.src;
+  kept : g.S.Source.faults l.src ≡ g.S.Source.faults l.initial.src;
 }
 
 abbrev pub decreases-loop-all : goal.decreases-loop-all

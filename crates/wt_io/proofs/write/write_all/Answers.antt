@@ -1,4 +1,4 @@
-use Rattle.std.proofs.Common.{rules, arith, ◌≡◌, ◌+◌, ◌-◌, List, ℕ, ◌++◌, take, drop, take-add, append_assoc, ap, ◌∙◌, sym, length, length-drop}
+use Rattle.std.proofs.Common.{arith, ◌≡◌, ◌+◌, ◌-◌, List, ℕ, ◌++◌, take, drop, take-add, append_assoc, ap, ◌∙◌, sym, length, length-drop}
 use Rattle.std.proofs.lemmas.List.{take_all}
 use Rattle.std.specs.Prelude.{Option, None, Some}
 use Rattle.std.specs.Io.KnownBytes.{Appends}
@@ -17,5 +17,5 @@ pub loop-at-preserved : goal.loop-at-preserved
 loop-at-preserved g c = record {
   within = omega (arith, length-drop c.loop-at.at c.args.bytes.now, c.in-Ok.ensures.bound);
   written = rw more (appends_on _ _ _ _ _ c.loop-at.invariant.written c.in-Ok.ensures.bytes);
-  later = omega (arith, c.in-Ok.ensures.cause.later);
+  kept = c.in-Ok.ensures.cause.kept ∙ c.loop-at.invariant.kept;
 }

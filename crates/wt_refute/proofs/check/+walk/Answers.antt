@@ -6,7 +6,6 @@ use Rattle.wt_refute.specs.View.{refutation, children_view}
 use Rattle.wt_refute.specs.Placed.{placed}
 use Rattle.wt_refute.specs.Refutes.{is_branching, first_wrong, first_wrong_in}
 use Rattle.wt_refute.proofs.Children.{view_more}
-
 use Rattle.wt_refute.proofs.Walked.{taken_back, step_left, step_wrong, step_count}
 use Rattle.wt_refute.proofs.check.+walk.Goals as goal
 

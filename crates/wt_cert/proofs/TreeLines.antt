@@ -1,0 +1,68 @@
+-- A tree to the end of a line, both ways.
+use Rattle.std.proofs.Common.{rules, arith, ◌≡◌, ℕ, zero, suc, ◌+◌, ◌≤◌, ◌<◌, ◌^◌, Bool, true, false, cond, ◌&&◌, List, [], ◌∷◌, ◌++◌, length, Option, Some, None, Result, Ok, Err, refl, sym, ap, ◌∙◌}
+use Rattle.std.specs.Fmt.{decimal}
+use Rattle.wt_line.specs.declared.faults.What.{What}
+use Rattle.wt_text.specs.Spellings.{IsClean, AllFit}
+use Rattle.wt_text.specs.Readers.{LineFault, wrong, past}
+use Rattle.wt_text.proofs.Numbers.{decimal_clean, if_some, is_decimal_again}
+use Rattle.wt_text.proofs.Formats.{clean_both, read_is}
+use Rattle.wt_text.proofs.Last.{IsLast}
+use Rattle.wt_tile.specs.declared.tile.Axis.{Axis}
+use Rattle.wt_tile.specs.declared.tile.Axis.TheVariants.{One, Two}
+use Rattle.wt_refute.specs.Refutation.{Refutation, Branches, branch, cite, no_more, more, node_count}
+use Rattle.wt_cert.specs.Trees.{branch_count, axis_word, tree_spelling, branches_spelling, is_forest, is_tree, tree_in, found_tree, tree_to_end, TreeFits, BranchesFit}
+use Rattle.wt_cert.proofs.TreesFound.{tree_found}
+use Rattle.wt_cert.proofs.TreesAgain.{tree_again, forest_form, children_again, cites_again}
+
+append_nil : {A : Type 0} (x : List A) → x ++ [] ≡ x
+append_nil [] = refl
+append_nil (y ∷ ys) = ap (λ (r : List _). y ∷ r) (append_nil ys)
+
+axis_clean : (axis : Axis) → IsClean (axis_word axis)
+axis_clean One = (refl, refl, (refl, refl, tt))
+axis_clean Two = (refl, refl, (refl, refl, tt))
+
+mutual
+  tree_clean : (citing : Bool) (levels nodes : ℕ) (tree : Refutation) → TreeFits citing levels nodes tree → AllFit IsClean (tree_spelling tree)
+  tree_clean citing zero nodes tree fits = absurd fits
+  tree_clean citing (suc levels) nodes (cite cell axis) fits = let le : cell ≤ 65535 = fits.1 in (decimal_clean cell (omega (arith, le)), (axis_clean axis, tt))
+  tree_clean citing (suc levels) nodes (branch cell branches) fits =
+      let le : cell ≤ 65535 = fits.1 in
+      let few : branch_count branches ≤ 256 = fits.2 in
+      (decimal_clean cell (omega (arith, le)), (decimal_clean (branch_count branches) (omega (arith, few)), branches_clean citing levels (nodes + 1) branches fits.3))
+
+  branches_clean : (citing : Bool) (levels nodes : ℕ) (b : Branches) → BranchesFit citing levels nodes b → AllFit IsClean (branches_spelling b)
+  branches_clean citing levels nodes no_more fits = tt
+  branches_clean citing levels nodes (more tile tree others) fits =
+      let le : tile ≤ 65535 = fits.0 in
+      (decimal_clean tile (omega (arith, le)), clean_both (tree_spelling tree) (branches_spelling others) (tree_clean citing levels nodes tree fits.1) (branches_clean citing levels (nodes + node_count tree) others fits.2))
+
+-- a tree alone has the form of a line
+whole_form : (citing : Bool) (levels nodes : ℕ) (tree : Refutation) → TreeFits citing levels nodes tree → is_tree citing (tree_spelling tree) ≡ true
+whole_form citing zero nodes tree fits = absurd fits
+whole_form citing (suc levels) nodes (cite cell axis) fits =
+    let le : cell ≤ 65535 = fits.1 in
+    rw (is_decimal_again cell (omega (arith, le)), cites_again citing axis fits.2) refl
+whole_form citing (suc levels) nodes (branch cell branches) fits =
+    let le : cell ≤ 65535 = fits.1 in
+    let few : branch_count branches ≤ 256 = fits.2 in
+    let z : 0 + branch_count branches ≡ branch_count branches = omega arith in
+    rw (is_decimal_again cell (omega (arith, le)), children_again citing (branch_count branches) (omega (arith, few)))
+    (ap (λ (m : ℕ). is_forest citing m (branches_spelling branches)) (sym z) ∙ ap (λ (l : List (List ℕ)). is_forest citing (0 + branch_count branches) l) (sym (append_nil (branches_spelling branches))) ∙ forest_form citing levels (nodes + 1) 0 branches [] fits.3)
+
+pub tree_last : (citing : Bool) (nodes : ℕ) → IsLast (tree_to_end citing nodes) tree_spelling (TreeFits citing 90 nodes)
+tree_last citing nodes = record {
+  found = λ ts x rest e.
+      let p = if_some (is_tree citing ts) _ (Ok x, rest) e in
+      (tree_found citing 90).finds nodes ts x rest (found_ok (tree_in citing 90 nodes ts) x rest p.1);
+  again = λ x fits.
+      let one : tree_in citing 90 nodes (tree_spelling x) ≡ Ok (x, []) = ap (tree_in citing 90 nodes) (sym (append_nil (tree_spelling x))) ∙ tree_again citing 90 nodes x [] fits in
+      let form : is_tree citing (tree_spelling x) ≡ true = whole_form citing 90 nodes x fits in
+      rw (form, one) refl;
+  clean = tree_clean citing 90 nodes;
+}
+  where
+    found_ok : (r : Result (Refutation × List (List ℕ)) (LineFault What)) (x : Refutation) (rest : List (List ℕ)) → found_tree r ≡ Some (Ok x, rest) → r ≡ Ok (x, rest)
+    found_ok (Ok y) x rest e = let p = read_is (Ok y.0) (Ok x) y.1 rest e in let a : y.0 ≡ x = cc (p.0) in ap (λ (z : Refutation). Ok (z, y.1)) a ∙ ap (λ (z : List (List ℕ)). Ok (x, z)) p.1
+    found_ok (Err wrong) x rest e = absurd cc
+    found_ok (Err (past what)) x rest e = let p = read_is (Err what) (Ok x) [] rest e in absurd (cc (p.0))

@@ -1,0 +1,5 @@
+pub mod Values
+pub mod Trees
+pub mod LineForms
+pub mod Parts
+pub mod Seen

@@ -1,0 +1,121 @@
+-- The lines of a certificate, each by its form and its limits, in the grammar's order. A row of names is in wt_pattern, a tree in Trees.
+use Rattle.std.specs.Prelude.{◌≡◌, ℕ, Bool, true, false, List, [], ◌∷◌, Option, None, Some, Result, Ok, Err, codes, nat_eq, if◌then◌else◌}
+use Rattle.std.specs.Fmt.{decimal}
+use Rattle.wt_tile.specs.declared.tile.Axis.{Axis}
+use Rattle.wt_tile.specs.declared.tile.Axis.TheVariants as axes
+use Rattle.wt_tile.specs.declared.tile.Side.{Side}
+use Rattle.wt_tile.specs.declared.tile.Side.TheVariants.{After, Before}
+use Rattle.wt_line.specs.declared.faults.What.{What}
+use Rattle.wt_line.specs.declared.faults.What.TheVariants.{Steps, Radius, Tiles, Pairs, Expansion, Number}
+use Rattle.wt_morphism.specs.declared.image.Image.{Image}
+use Rattle.wt_morphism.specs.declared.image.Image.TheVariants as images
+use Rattle.wt_refute.specs.Refutation.{Refutation}
+use Rattle.wt_chain.specs.declared.raw.Version.{Version}
+use Rattle.wt_chain.specs.declared.raw.Version.TheVariants as versions
+use Rattle.wt_text.specs.Words.{number}
+use Rattle.wt_text.specs.Readers.{◌>>=◌, pair, mapped, LineFault, within, number_to, either_word, given, seen_value, Either, first, either_behind, behind, both, whole, counted_numbers}
+use Rattle.wt_cert.specs.Trees.{tree_to_end}
+
+-- a number that has no limit of its own
+abbrev pub small : List (List ℕ) → Option (Result ℕ What × List (List ℕ))
+small = number_to 65535 Number
+
+abbrev pub radius : List (List ℕ) → Option (Result ℕ What × List (List ℕ))
+radius = number_to 4 Radius
+
+abbrev pub axis : List (List ℕ) → Option (Result Axis What × List (List ℕ))
+axis = either_word (codes "1") axes.One (codes "2") axes.Two
+
+abbrev pub side : List (List ℕ) → Option (Result Side What × List (List ℕ))
+side = either_word (codes "after") After (codes "before") Before
+
+-- a word, and no more
+unfoldable pub alone_form : List ℕ → List (List ℕ) → Result (Unit {0}) (LineFault What)
+alone_form w = whole (behind w (given tt))
+
+-- a word, and a count of what follows
+unfoldable pub count_form : List ℕ → ℕ → What → List (List ℕ) → Result ℕ (LineFault What)
+count_form w most what = whole (behind w (number_to most what))
+
+-- a word, a count, and so many numbers
+unfoldable pub numbers_form : List ℕ → List (List ℕ) → Result (List ℕ) (LineFault What)
+numbers_form w = whole (behind w (counted_numbers 256 Tiles 65535 Number))
+
+-- ---- certificate 1, or certificate 2
+
+unfoldable pub version_form : List (List ℕ) → Result Version (LineFault What)
+version_form = whole (behind (codes "certificate") (either_word (codes "1") versions.One (codes "2") versions.Two))
+
+-- ---- steps S, where S is at least 1
+
+abbrev pub step_count : List (List ℕ) → Option (Result ℕ What × List (List ℕ))
+step_count [] = None
+step_count (t ∷ ts) = number t >>= λ n. if nat_eq n 0 then None else Some (within 32 Steps n, ts)
+
+unfoldable pub steps_form : List (List ℕ) → Result ℕ (LineFault What)
+steps_form = whole (behind (codes "steps") step_count)
+
+-- ---- step k axis A side W radius R, or in version two step k restrict radius R
+
+-- the axis, the side and the radius of a marker step
+abbrev pub marker_head : List (List ℕ) → Option (Result (Axis × (Side × ℕ)) What × List (List ℕ))
+marker_head = both axis (behind (codes "side") (both side (behind (codes "radius") radius)))
+
+abbrev pub restrict_head : List (List ℕ) → Option (Result ℕ What × List (List ℕ))
+restrict_head = behind (codes "radius") radius
+
+-- the head of a marker step, or of a restrict step
+abbrev pub Head : Type 0
+Head = Either (Axis × (Side × ℕ)) ℕ
+
+abbrev pub kind_of_step : Version → List (List ℕ) → Option (Result Head What × List (List ℕ))
+kind_of_step versions.One ts = seen_value first (behind (codes "axis") marker_head ts)
+kind_of_step versions.Two ts = either_behind (codes "axis") marker_head (codes "restrict") restrict_head ts
+
+unfoldable pub head_form : Version → ℕ → List (List ℕ) → Result Head (LineFault What)
+head_form version k = whole (behind (codes "step") (behind (decimal k) (kind_of_step version)))
+
+-- ---- allowed 1 c, or allowed 2 c: a b
+
+unfoldable pub allowed_form : List ℕ → List (List ℕ) → Result ℕ (LineFault What)
+allowed_form a = whole (behind (codes "allowed") (behind a (number_to 65536 Pairs)))
+
+unfoldable pub pair_form : List (List ℕ) → Result (ℕ × ℕ) (LineFault What)
+pair_form = whole (both small small)
+
+-- ---- refuted: A a b TREE, with the radius of the step, or in version two A a b R TREE
+
+-- only trees of version two cite
+abbrev pub may_cite : Version → Bool
+may_cite versions.One = false
+may_cite versions.Two = true
+
+abbrev pub radius_in : Version → ℕ → List (List ℕ) → Option (Result ℕ What × List (List ℕ))
+radius_in versions.One r ts = given r ts
+radius_in versions.Two r ts = radius ts
+
+unfoldable pub refuted_form : Version → ℕ → ℕ → List (List ℕ) → Result (Axis × (ℕ × (ℕ × (ℕ × Refutation)))) (LineFault What)
+refuted_form version r nodes = whole (both axis (both small (both small (both (radius_in version r) (tree_to_end (may_cite version) nodes)))))
+
+-- ---- lost: t TREE
+
+unfoldable pub lost_form : ℕ → List (List ℕ) → Result (ℕ × Refutation) (LineFault What)
+lost_form nodes = whole (both small (tree_to_end true nodes))
+
+-- ---- images: u, or u v
+
+abbrev pub image_of : ℕ × ℕ → Image
+image_of x = images.Two x.0 x.1
+
+abbrev pub image : List (List ℕ) → Option (Result Image What × List (List ℕ))
+image [] = None
+image (t ∷ []) = seen_value images.One (small (t ∷ []))
+image (t ∷ s ∷ ts) = seen_value image_of (both small small (t ∷ s ∷ ts))
+
+unfoldable pub image_form : List (List ℕ) → Result Image (LineFault What)
+image_form = whole image
+
+-- ---- open, or loop START E
+
+unfoldable pub end_form : List (List ℕ) → Result (Either (Unit {0}) (ℕ × ℕ)) (LineFault What)
+end_form = whole (either_behind (codes "open") (given tt) (codes "loop") (both small (number_to 256 Expansion)))

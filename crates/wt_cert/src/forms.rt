@@ -1,0 +1,65 @@
+// The form of a tree in a line.
+ghost use Rattle.std.specs.Prelude.{◌≡◌, ◌<◌, ◌+◌, ◌-◌, ◌^◌, length, MatchOption, IfSome, ℕ, suc, false};
+ghost use Rattle.wt_line.specs.Given.{left, room};
+ghost use Rattle.wt_cert.specs.Trees.{is_tree, is_forest, held_owed, ending};
+
+use wt_line::{Rest, is_decimal, next_token, number};
+
+fn owed_by(citing: bool, token: &[u8]) -> Option<u64>
+    ensures { result ≡ held_owed (ending citing token.now) }
+{
+    if citing && token == b"c1".as_slice() {
+        return Some(0);
+    }
+    if citing && token == b"c2".as_slice() {
+        return Some(0);
+    }
+    number(token)
+}
+
+/// One child with its node: what the node owes, and what is left.
+fn next_child(citing: bool, rest: Rest<'_>) -> Option<(u64, Rest<'_>)>
+    ensures form { MatchOption result ((n : ℕ) → is_forest citing (suc n) (left rest.entry.more rest.entry.line.now) ≡ false) (λ x. (n : ℕ) → is_forest citing (suc n) (left rest.entry.more rest.entry.line.now) ≡ is_forest citing (n + x.0) (left x.1.more x.1.line.now)) }
+    ensures fewer { IfSome result (λ x. room x.1.more x.1.line.now < room rest.entry.more rest.entry.line.now) }
+    ensures few { IfSome result (λ x. length (left x.1.more x.1.line.now) < 2 ^ 64 - 1) }
+{
+    let (tile, rest) = next_token(rest)?;
+    let (cell, rest) = next_token(rest)?;
+    let (count, rest) = next_token(rest)?;
+    if !is_decimal(tile) || !is_decimal(cell) {
+        return None;
+    }
+    let owed = owed_by(citing, count)?;
+    Some((owed, rest))
+}
+
+fn first_node(citing: bool, rest: Rest<'_>) -> Option<(u64, Rest<'_>)>
+    ensures { MatchOption result (is_tree citing (left rest.entry.more rest.entry.line.now) ≡ false) (λ x. is_tree citing (left rest.entry.more rest.entry.line.now) ≡ is_forest citing x.0 (left x.1.more x.1.line.now)) }
+{
+    let (cell, rest) = next_token(rest)?;
+    let (count, rest) = next_token(rest)?;
+    if !is_decimal(cell) {
+        return None;
+    }
+    let owed = owed_by(citing, count)?;
+    Some((owed, rest))
+}
+
+/// Whether the tokens to the end of a line are those of a tree.
+pub fn tree_form(citing: bool, rest: Rest<'_>) -> bool
+    ensures { result ≡ is_tree citing (left rest.entry.more rest.entry.line.now) }
+{
+    let Some((owed, after)) = first_node(citing, rest) else {
+        return false;
+    };
+    let mut owed = owed;
+    let mut rest = after;
+    while owed > 0 {
+        let Some((more, after)) = next_child(citing, rest) else {
+            return false;
+        };
+        owed = (owed - 1).saturating_add(more);
+        rest = after;
+    }
+    !rest.more
+}

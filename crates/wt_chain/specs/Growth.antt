@@ -1,0 +1,62 @@
+-- How large the images of tiles grow in a loop.
+use Rattle.std.specs.Prelude.{ℕ, zero, suc, ◌+◌, List, [], ◌∷◌, length, Bool, true, false, ◌&&◌, nat_eq, nat_le, slice_index, slice_index_or, if◌then◌else◌}
+use Rattle.wt_tile.specs.declared.tile.Axis.{Axis}
+use Rattle.wt_tile.specs.declared.tile.Axis.TheVariants.{One, Two}
+use Rattle.wt_tile.specs.Matching.{same_axis}
+use Rattle.wt_morphism.specs.declared.image.Image.{Image}
+use Rattle.wt_morphism.specs.declared.image.Image.TheVariants.{One as Single, Two as Double}
+use Rattle.wt_grid.specs.Widths.{Stage, width}
+use Rattle.wt_step.specs.declared.raw.RawLink.{RawLink}
+use Rattle.wt_step.specs.declared.raw.RawLink.TheVariants.{Marker, Restrict}
+
+-- what a coarse tile stands for; a restrict step keeps one tile for it
+abbrev pub image_of : RawLink → ℕ → Image
+image_of (Marker s) t = slice_index_or s.images t (Single 0)
+image_of (Restrict s) t = Single (slice_index s.kept t)
+
+-- images of two tiles lie along this axis
+abbrev pub is_along : Axis → RawLink → Bool
+is_along axis (Marker s) = same_axis axis s.axis
+is_along axis (Restrict s) = false
+
+abbrev pub tiles_of : Image → List ℕ
+tiles_of (Single a) = a ∷ []
+tiles_of (Double a b) = a ∷ b ∷ []
+
+abbrev pub first_of : Image → ℕ
+first_of (Single a) = a
+first_of (Double a b) = a
+
+-- a step's images, as they widen a row along an axis
+abbrev pub stage : Axis → RawLink → Stage
+stage axis link = record { is_along = is_along axis link; pieces = λ t. tiles_of (image_of link t); first = λ t. first_of (image_of link t) }
+
+-- the tile that is carried onto t
+abbrev pub origin_from : ℕ → List ℕ → ℕ → ℕ
+origin_from i [] t = 0
+origin_from i (r ∷ rs) t = if nat_eq r t then i else origin_from (i + 1) rs t
+
+abbrev pub origin : List ℕ → ℕ → ℕ
+origin renaming t = origin_from 0 renaming t
+
+-- tiles are renamed back
+abbrev pub renaming_stage : List ℕ → Stage
+renaming_stage renaming = record { is_along = false; pieces = λ t. origin renaming t ∷ []; first = λ t. origin renaming t }
+
+-- the images of the last step come first; then what is left follows
+abbrev pub stages : Axis → List RawLink → List Stage → List Stage
+stages axis [] left = left
+stages axis (link ∷ links) left = stages axis links (stage axis link ∷ left)
+
+-- one turn of a loop: tiles are renamed back to the last set, and then the images of its steps are taken, last step first
+abbrev pub turn : Axis → List RawLink → List ℕ → List Stage → List Stage
+turn axis loop renaming left = renaming_stage renaming ∷ stages axis loop left
+
+-- so many turns
+abbrev pub turns : Axis → List RawLink → List ℕ → ℕ → List Stage
+turns axis loop renaming zero = []
+turns axis loop renaming (suc n) = turn axis loop renaming (turns axis loop renaming n)
+
+-- after so many turns the image of tile t is at least two wide and two high
+abbrev pub has_grown : List RawLink → List ℕ → ℕ → ℕ → Bool
+has_grown loop renaming n t = nat_le 2 (width (turns One loop renaming n) t) && nat_le 2 (width (turns Two loop renaming n) t)

@@ -1,0 +1,5 @@
+pub mod Versions
+pub mod Sets
+pub mod Growth
+pub mod Tables
+pub mod Faults

@@ -1,0 +1,44 @@
+-- The tile sets between steps.
+use Rattle.std.specs.Prelude.{◌≡◌, ℕ, List, length, [], ◌∷◌, Bool, true, ◌&&◌, Option, None, Some}
+use Rattle.std.specs.Cmp.Lexicographic.{pointwise}
+use Rattle.std.specs.Str.{bytes_eq}
+use Rattle.wt_tile.specs.declared.tile.TileList.{TileList}
+use Rattle.wt_tile.specs.Sets.{same_tile}
+use Rattle.wt_bijection.specs.Renaming.{renaming_fault}
+use Rattle.wt_step.specs.declared.raw.RawLink.{RawLink}
+use Rattle.wt_step.specs.Links.{link_fault, fine_of, coarse_of}
+
+-- the tiles are the same, and so are the names of both axes
+abbrev pub same_set : TileList → TileList → Bool
+same_set a b = pointwise same_tile a.tiles b.tiles && pointwise bytes_eq a.names1 b.names1 && pointwise bytes_eq a.names2 b.names2
+
+-- the step takes apart the set before it, where there is one
+abbrev pub comes_next : Option TileList → RawLink → Bool
+comes_next None link = true
+comes_next (Some set) link = same_set set (fine_of link)
+
+-- the set behind these steps; the set before them where there is none
+abbrev pub last_set : TileList → List RawLink → TileList
+last_set set [] = set
+last_set set (link ∷ links) = last_set (coarse_of link) links
+
+-- good steps, each of which takes apart the set before it
+abbrev pub AreLinked : TileList → List RawLink → Type 0
+AreLinked set [] = Unit {0}
+AreLinked set (link ∷ links) = (link_fault link ≡ None) × (fine_of link ≡ set) × AreLinked (coarse_of link) links
+
+-- good steps, one behind the other
+abbrev pub IsRun : List RawLink → Type 0
+IsRun [] = Unit {0}
+IsRun (link ∷ links) = AreLinked (fine_of link) (link ∷ links)
+
+-- so many tiles the first set has
+abbrev pub first_count : List RawLink → ℕ
+first_count [] = 0
+first_count (link ∷ links) = length (fine_of link).tiles
+
+-- the steps are good, one behind the other, and the renaming leads from the last set to the first
+abbrev pub Closes : List RawLink → List ℕ → Type 0
+Closes [] renaming = ⊥
+Closes (link ∷ links) renaming =
+    AreLinked (fine_of link) (link ∷ links) × (renaming_fault (last_set (coarse_of link) links).tiles (fine_of link).tiles renaming ≡ None)

@@ -1,0 +1,46 @@
+-- Tables that say for each tile whether its image is at least two long.
+use Rattle.std.specs.Prelude.{ℕ, zero, suc, ◌≡◌, ◌<◌, ◌≤◌, List, [], ◌∷◌, map, replicate, Bool, false, ◌||◌, nat_le, slice_index_or}
+use Rattle.std.specs.List.{range_with_len}
+use Rattle.wt_tile.specs.declared.tile.Axis.{Axis}
+use Rattle.wt_morphism.specs.declared.image.Image.{Image}
+use Rattle.wt_morphism.specs.declared.image.Image.TheVariants.{One as Single, Two as Double}
+use Rattle.wt_grid.specs.Widths.{Stage, width}
+use Rattle.wt_step.specs.declared.raw.RawLink.{RawLink}
+use Rattle.wt_chain.specs.Growth.{image_of, is_along, origin}
+
+-- the entries of 256 tiles
+abbrev pub table : {A : Type 0} → (ℕ → A) → List A
+table f = map f (range_with_len 0 256)
+
+abbrev pub entry : List Bool → ℕ → Bool
+entry rows t = slice_index_or rows t false
+
+-- an image is at least two long where it is two tiles along the axis, or where that of its first tile is
+abbrev pub grows_by : Bool → Image → List Bool → Bool
+grows_by along (Single a) rows = entry rows a
+grows_by along (Double a b) rows = along || entry rows a
+
+abbrev pub grows : Axis → RawLink → List Bool → ℕ → Bool
+grows axis link rows t = grows_by (is_along axis link) (image_of link t) rows
+
+unfoldable pub next_table : Axis → RawLink → List Bool → List Bool
+next_table axis link rows = table (grows axis link rows)
+
+abbrev pub climb : Axis → List RawLink → List Bool → List Bool
+climb axis [] rows = rows
+climb axis (link ∷ links) rows = climb axis links (next_table axis link rows)
+
+abbrev pub origin_entry : List ℕ → List Bool → ℕ → Bool
+origin_entry renaming rows t = entry rows (origin renaming t)
+
+unfoldable pub renamed_table : List ℕ → List Bool → List Bool
+renamed_table renaming rows = table (origin_entry renaming rows)
+
+abbrev pub turns_table : Axis → List RawLink → List ℕ → ℕ → List Bool
+turns_table axis loop renaming zero = replicate 256 false
+turns_table axis loop renaming (suc n) = renamed_table renaming (climb axis loop (turns_table axis loop renaming n))
+
+-- the table tells for n tiles whether these stages make them at least two wide
+pub record IsTable (n : ℕ) (rows : List Bool) (left : List Stage) : Type 0 where
+  pub tells : (t : ℕ) → t < n → entry rows t ≡ nat_le 2 (width left t)
+  pub some : (t : ℕ) → 1 ≤ width left t

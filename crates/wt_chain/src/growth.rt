@@ -1,0 +1,173 @@
+// How large the images of tiles grow in a loop: tables that say for each tile whether its image is at least two long.
+ghost use Rattle.std.specs.Prelude.{◌≡◌, ◌<◌, ◌≤◌, length, false, slice_index};
+ghost use Rattle.wt_chain.specs.Growth.{image_of as link_image, is_along as lies_along, origin as origin_of};
+ghost use Rattle.wt_chain.specs.Sets.{Closes, first_count};
+ghost use Rattle.wt_chain.specs.Faults.{small_at as fault_of, first_small as first_fault, growth_fault as first_growth};
+ghost use Rattle.wt_chain.specs.Tables.{table as table_of, entry as table_entry, grows as grows_at, next_table as next_of, climb as climbed, renamed_table, turns_table};
+
+use crate::Refusal;
+use wt_morphism::Image;
+use wt_step::RawLink;
+use wt_tile::{Axis, same_axis};
+
+/// What a coarse tile stands for.
+fn image_of(link: &RawLink, t: u16) -> Image
+    ensures { result ≡ link_image link.now t }
+{
+    let t = usize::from(t);
+    match link {
+        RawLink::Marker(step) => {
+            let images = step.images.as_slice();
+            if t < images.len() {
+                images[t]
+            } else {
+                Image::One(0)
+            }
+        }
+        RawLink::Restrict(step) => {
+            let kept = step.kept.as_slice();
+            if t < kept.len() {
+                Image::One(kept[t])
+            } else {
+                Image::One(0)
+            }
+        }
+    }
+}
+
+/// Whether images of two tiles lie along the axis.
+fn is_along(axis: Axis, link: &RawLink) -> bool
+    ensures { result ≡ lies_along axis link.now }
+{
+    match link {
+        RawLink::Marker(step) => same_axis(axis, step.axis),
+        RawLink::Restrict(_) => false,
+    }
+}
+
+fn entry(rows: &[bool; 256], t: u16) -> bool
+    ensures { result ≡ table_entry rows.now t }
+{
+    let t = usize::from(t);
+    t < 256 && rows[t]
+}
+
+fn grows(axis: Axis, link: &RawLink, rows: &[bool; 256], t: u16) -> bool
+    ensures { result ≡ grows_at axis link.now rows.now t }
+{
+    match image_of(link, t) {
+        Image::One(a) => entry(rows, a),
+        Image::Two(a, _) => is_along(axis, link) || entry(rows, a),
+    }
+}
+
+fn next_table(axis: Axis, link: &RawLink, rows: &[bool; 256]) -> [bool; 256]
+    ensures { result ≡ next_of axis link.now rows.now }
+{
+    let mut next = [false; 256];
+    for t in 0..256u16 {
+        next[usize::from(t)] = grows(axis, link, rows, t);
+    }
+    next
+}
+
+/// The table of the set behind these steps, from that of the set before them.
+fn climb(axis: Axis, links: &[RawLink], rows: &[bool; 256]) -> [bool; 256]
+    ensures { result ≡ climbed axis links.now rows.now }
+{
+    let mut table = *rows;
+    for link in links {
+        table = next_table(axis, link, &table);
+    }
+    table
+}
+
+fn origin(renaming: &[u16], t: u16) -> u16
+    requires { length renaming.now ≤ 256 }
+    ensures { result ≡ origin_of renaming.now t }
+{
+    for (i, partner) in renaming.iter().enumerate() {
+        if *partner == t {
+            return i as u16;
+        }
+    }
+    0
+}
+
+/// For each tile the one that is carried onto it.
+fn origins(renaming: &[u16]) -> [u16; 256]
+    requires { length renaming.now ≤ 256 }
+    ensures { result ≡ table_of (origin_of renaming.now) }
+{
+    let mut origins = [0u16; 256];
+    for t in 0..256u16 {
+        origins[usize::from(t)] = origin(renaming, t);
+    }
+    origins
+}
+
+fn origin_entry(origins: &[u16; 256], rows: &[bool; 256], t: usize) -> bool
+    requires inside { t < 256 }
+    ensures { result ≡ table_entry rows.now (slice_index origins.now t) }
+{
+    entry(rows, origins[t])
+}
+
+fn renamed(renaming: &[u16], origins: &[u16; 256], rows: &[bool; 256]) -> [bool; 256]
+    requires { origins.now ≡ table_of (origin_of renaming.now) }
+    ensures { result ≡ renamed_table renaming.now rows.now }
+{
+    let mut next = [false; 256];
+    for t in 0..256 {
+        next[t] = origin_entry(origins, rows, t);
+    }
+    next
+}
+
+/// The table of the loop's first set after so many turns.
+fn turned(axis: Axis, links: &[RawLink], renaming: &[u16], turns: u32) -> [bool; 256]
+    requires { length renaming.now ≤ 256 }
+    ensures { result ≡ turns_table axis links.now renaming.now turns }
+{
+    let origins = origins(renaming);
+    let mut table = [false; 256];
+    for turn in 0..turns {
+        let climbed = climb(axis, links, &table);
+        table = renamed(renaming, &origins, &climbed);
+    }
+    table
+}
+
+fn small_at(wide: &[bool; 256], high: &[bool; 256], t: u16) -> Option<Refusal>
+    ensures { result ≡ fault_of wide.now high.now t }
+{
+    if entry(wide, t) && entry(high, t) {
+        None
+    } else {
+        Some(Refusal::Expansion { tile: t })
+    }
+}
+
+#[tactic(auto, using(wt_grid::proofs::First::first_more))]
+fn first_small(wide: &[bool; 256], high: &[bool; 256], count: u16) -> Option<Refusal>
+    ensures { result ≡ first_fault wide.now high.now count }
+{
+    for t in 0..count {
+        if let Some(fault) = small_at(wide, high, t) {
+            return Some(fault);
+        }
+    }
+    None
+}
+
+/// The first tile of the loop's first set whose image after so many turns isn't at least two wide and two high. The steps are good, each takes apart the set before it, and the renaming has no fault.
+pub fn growth_fault(links: &[RawLink], renaming: &[u16], turns: u32, count: u16) -> Option<Refusal>
+    requires closed { Closes links.now renaming.now }
+    requires counted { count ≡ first_count links.now }
+    requires few { length renaming.now ≤ 256 }
+    ensures { result ≡ first_growth links.now renaming.now turns count }
+{
+    let wide = turned(Axis::One, links, renaming, turns);
+    let high = turned(Axis::Two, links, renaming, turns);
+    first_small(&wide, &high, count)
+}

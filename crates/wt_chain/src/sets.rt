@@ -1,0 +1,66 @@
+// The tile sets between steps.
+ghost use Rattle.std.specs.Prelude.{◌≡◌, ◌∷◌, option_map};
+ghost use Rattle.std.specs.Cmp.Lexicographic.{pointwise};
+ghost use Rattle.std.specs.Str.{bytes_eq};
+ghost use Rattle.wt_step.specs.Links.{fine_of, coarse_of};
+ghost use Rattle.wt_chain.specs.Sets.{same_set as sets_agree, comes_next as follows};
+
+use wt_step::RawLink;
+use wt_tile::{Name, TileList};
+
+/// The set that a step takes apart.
+pub fn fine_set(link: &RawLink) -> &TileList
+    ensures { result.now ≡ fine_of link.now }
+{
+    match link {
+        RawLink::Marker(step) => &step.fine,
+        RawLink::Restrict(step) => &step.fine,
+    }
+}
+
+/// The set of the coarse patterns.
+pub fn coarse_set(link: &RawLink) -> &TileList
+    ensures { result.now ≡ coarse_of link.now }
+{
+    match link {
+        RawLink::Marker(step) => &step.coarse,
+        RawLink::Restrict(step) => &step.coarse,
+    }
+}
+
+fn same_names(a: &[Name], b: &[Name]) -> bool
+    ensures { result ≡ pointwise bytes_eq a.now b.now }
+{
+    let mut left = a;
+    let mut right = b;
+    while let [name, after @ ..] = left {
+        let [other, behind @ ..] = right else {
+            return false;
+        };
+        if name.bytes() != other.bytes() {
+            return false;
+        }
+        left = after;
+        right = behind;
+    }
+    right.is_empty()
+}
+
+/// Whether two lists have the same tiles and names.
+pub fn same_set(a: &TileList, b: &TileList) -> bool
+    ensures { result ≡ sets_agree a.now b.now }
+{
+    a.tiles.as_slice() == b.tiles.as_slice()
+        && same_names(a.names1.as_slice(), b.names1.as_slice())
+        && same_names(a.names2.as_slice(), b.names2.as_slice())
+}
+
+/// Whether the step takes apart the set before it, where there is one.
+pub fn comes_next(before: Option<&TileList>, link: &RawLink) -> bool
+    ensures { result ≡ follows (option_map (λ set. set.now) before.entry) link.now }
+{
+    match before {
+        None => true,
+        Some(set) => same_set(set, fine_set(link)),
+    }
+}

@@ -1,0 +1,10 @@
+//! The check of a chain, and what is printed of it.
+#![tactic(auto)]
+
+mod accepted;
+mod checked;
+mod refusal;
+
+pub use accepted::report;
+pub use checked::check;
+pub use refusal::refusal_text;

@@ -1,0 +1,4 @@
+pub mod Cuts
+pub mod Moved
+pub mod Spaces
+pub mod Values

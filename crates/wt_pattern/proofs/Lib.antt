@@ -1,0 +1,11 @@
+pub mod Names
+pub mod TileTurns
+pub mod Ends
+pub mod CellTurns
+pub mod First
+pub mod Lines
+pub mod RowFaults
+pub mod PeriodFaults
+pub mod PartCells
+pub mod Stacks
+pub mod CellForms

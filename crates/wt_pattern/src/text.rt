@@ -1,0 +1,118 @@
+// Tile sets and patterns as text.
+ghost use Rattle.std.specs.Prelude.{◌≡◌, ◌≤◌, ◌<◌, IfOk, Ok, Err};
+ghost use Rattle.wt_text.specs.Words.{tokens};
+ghost use Rattle.wt_text.specs.Lines.{lines};
+ghost use Rattle.wt_text.specs.Readers.{whole_text, one_line};
+ghost use Rattle.wt_line.specs.Given.{left};
+ghost use Rattle.wt_line.specs.Faults.{ReadsTokens, ReadsLine, ReadsText};
+ghost use Rattle.wt_pattern.specs.TileRows.{tile_rows};
+ghost use Rattle.wt_pattern.specs.PatternRows.{pattern_rows, pattern_part, side_word, shape_form};
+
+use crate::Pattern;
+use crate::cells::{rows_at, stacked};
+use crate::rows::tiles_at;
+use std::alloc::Global;
+use wt_line::{
+    LineFault, Place, Rest, TextFault, What, line_end, next_line, next_token, number, placed,
+    text_end, word,
+};
+use wt_tile::TileList;
+
+const MAX_SIDE: u64 = 4096;
+
+/// A list of so many tiles, from a text that is its rows and no more.
+#[tactic(auto, unfolding(wt_text::specs::Readers::whole_text))]
+pub fn read_set(alloc: Global, bytes: &[u8], tiles: usize) -> Result<TileList, TextFault>
+    requires { tiles ≤ 256 }
+    ensures { ReadsText (λ list. list) result (whole_text (tile_rows tiles) (lines bytes.now)) }
+{
+    let (list, place) = tiles_at(alloc, tiles, Place::new(bytes))?;
+    text_end(place)?;
+    Ok(list)
+}
+
+/// The rows of a pattern of this width and height, the top one first.
+#[tactic(auto, unfolding(wt_text::specs::Readers::seen_as))]
+fn pattern_rows_at(
+    alloc: Global,
+    width: usize,
+    height: usize,
+    place: Place<'_>,
+) -> Result<(Pattern, Place<'_>), TextFault>
+    requires wide { (1 ≤ width) × (width ≤ 4096) }
+    requires high { (1 ≤ height) × (height ≤ 4096) }
+    ensures { ReadsText (λ x. (x.0, (x.1.number, lines x.1.bytes.now))) result (pattern_rows width height (place.entry.number, lines place.entry.bytes.now)) }
+{
+    let (rows, place) = rows_at(alloc, width, height, place)?;
+    let cells = stacked(alloc, rows)?;
+    match Pattern::new(width, height, cells) {
+        Ok(pattern) => Ok((pattern, place)),
+        Err(_) => unreachable!(),
+    }
+}
+
+/// A pattern of this width and height, from a text that is its rows and no more.
+#[tactic(auto, unfolding(wt_text::specs::Readers::whole_text))]
+pub fn read_pattern(alloc: Global, bytes: &[u8], w: usize, h: usize) -> Result<Pattern, TextFault>
+    requires wide { (1 ≤ w) × (w ≤ 4096) }
+    requires high { (1 ≤ h) × (h ≤ 4096) }
+    ensures { ReadsText (λ pattern. pattern) result (whole_text (pattern_rows w h) (lines bytes.now)) }
+{
+    let (pattern, place) = pattern_rows_at(alloc, w, h, Place::new(bytes))?;
+    text_end(place)?;
+    Ok(pattern)
+}
+
+/// A width or a height, or what it is where it is over 4096.
+fn side_at(what: What, rest: Rest<'_>) -> Result<(Result<usize, What>, Rest<'_>), LineFault>
+    ensures read { ReadsTokens (λ x. (x.0, left x.1.more x.1.line.now)) result (side_word what (left rest.entry.more rest.entry.line.now)) }
+    ensures small { IfOk result (λ x. IfOk x.0 (λ n. (1 ≤ n) × (n ≤ 4096))) }
+{
+    let Some((token, rest)) = next_token(rest) else {
+        return Err(LineFault::Wrong);
+    };
+    let Some(value) = number(token) else {
+        return Err(LineFault::Wrong);
+    };
+    if value == 0 {
+        return Err(LineFault::Wrong);
+    }
+    if value <= MAX_SIDE {
+        Ok((Ok(value as usize), rest))
+    } else {
+        Ok((Err(what), rest))
+    }
+}
+
+#[tactic(auto, unfolding(wt_text::specs::Readers::whole, wt_text::specs::Readers::both, wt_text::specs::Readers::behind))]
+fn shape_of(line: &[u8]) -> Result<(usize, usize), LineFault>
+    ensures read { ReadsLine (λ x. x) result (shape_form (tokens line.now)) }
+    ensures wide { IfOk result (λ x. (1 ≤ x.0) × (x.0 ≤ 4096)) }
+    ensures high { IfOk result (λ x. (1 ≤ x.1) × (x.1 ≤ 4096)) }
+{
+    let rest = word("pattern", Rest::new(line))?;
+    let (width, rest) = side_at(What::Width, rest)?;
+    let (height, rest) = side_at(What::Height, rest)?;
+    line_end(rest)?;
+    Ok((width?, height?))
+}
+
+#[tactic(auto, unfolding(wt_text::specs::Readers::one_line))]
+fn shape_at(place: Place<'_>) -> Result<((usize, usize), Place<'_>), TextFault>
+    ensures read { ReadsText (λ x. (x.0, (x.1.number, lines x.1.bytes.now))) result (one_line shape_form (place.entry.number, lines place.entry.bytes.now)) }
+    ensures wide { IfOk result (λ x. (1 ≤ x.0.0) × (x.0.0 ≤ 4096)) }
+    ensures high { IfOk result (λ x. (1 ≤ x.0.1) × (x.0.1 ≤ 4096)) }
+{
+    let (line, next) = next_line(place)?;
+    let shape = placed(shape_of(line), place.number)?;
+    Ok((shape, next))
+}
+
+/// A pattern with its head: the line `pattern`, its width and its height, and then its rows, the top one first. The place behind it comes with it.
+#[tactic(auto, unfolding(wt_text::specs::Readers::seen_as, wt_text::specs::Readers::part_by))]
+pub fn pattern_at(alloc: Global, place: Place<'_>) -> Result<(Pattern, Place<'_>), TextFault>
+    ensures { ReadsText (λ x. (x.0, (x.1.number, lines x.1.bytes.now))) result (pattern_part (place.entry.number, lines place.entry.bytes.now)) }
+{
+    let ((width, height), place) = shape_at(place)?;
+    pattern_rows_at(alloc, width, height, place)
+}

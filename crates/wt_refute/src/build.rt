@@ -1,0 +1,128 @@
+// Standard trees, built.
+ghost use Rattle.std.specs.Prelude.{◌≡◌, ◌+◌, ◌^◌, ◌<◌, ◌≤◌, length, IfOk, IsErrOf, true};
+ghost use Rattle.wt_refute.specs.Refutation.{node_count, branch, no_more};
+ghost use Rattle.wt_refute.specs.View.{refutation};
+ghost use Rattle.wt_refute.specs.Placed.{placed};
+ghost use Rattle.wt_refute.specs.Entries.{ascends};
+ghost use Rattle.wt_refute.specs.Standard.{tree_within, standard_tree};
+
+use crate::check::{free_cells, place_pair};
+use crate::choice::{first_citation, tightest};
+use crate::window::{fits, shape_of};
+use crate::{Child, Refuted, Tree};
+use sqlite_items::Items;
+use std::alloc::Global;
+use wt_tile::{Axis, SetRef, Tile};
+
+/// Why no tree was built.
+#[derive(Clone, Copy, Debug, PartialEq, Eq)]
+pub enum BuildEnd {
+    /// The standard tree has more nodes than the budget.
+    Spent,
+    /// No memory was left.
+    OutOfMemory,
+}
+
+fn leaf(alloc: Global) -> Tree
+    ensures { refutation result ≡ branch 0 no_more }
+{
+    Tree::Branch {
+        cell: 0,
+        children: Items::new(alloc),
+    }
+}
+
+/// The tree within a depth, and what is left of the budget.
+fn grow(
+    alloc: Global,
+    tiles: &[Tile],
+    radius: u8,
+    known: &[Refuted],
+    shape: (usize, usize),
+    cells: &mut [Option<u16>],
+    depth: usize,
+    budget: u64,
+) -> Result<(Tree, u64), BuildEnd>
+    requires wide { 0 < shape.0 }
+    requires small { shape.0 < 2 ^ 32 }
+    requires few { length tiles.now ≤ 65536 }
+    requires few_cells { length cells.old ≤ 65536 }
+    requires in_order { ascends known.now ≡ true }
+    ensures same { cells.new ≡ cells.old }
+    ensures ok { IfOk result (λ r. (refutation r.0 ≡ tree_within tiles.now radius known.now depth (placed shape cells.old))
+        × (r.1 + node_count (tree_within tiles.now radius known.now depth (placed shape cells.old)) ≡ budget)) }
+    ensures spent { IsErrOf result BuildEnd.Spent → budget < node_count (tree_within tiles.now radius known.now depth (placed shape cells.old)) }
+{
+    if budget == 0 {
+        return Err(BuildEnd::Spent);
+    }
+    let mut left = budget - 1;
+    if depth == 0 {
+        return Ok((leaf(alloc), left));
+    }
+    let below = depth - 1;
+    if let Some((cell, axis)) = first_citation(radius, known, shape, cells) {
+        return Ok((Tree::Cite { cell, axis }, left));
+    }
+    let Some(cell) = tightest(tiles, shape, cells) else {
+        return Ok((leaf(alloc), left));
+    };
+    let at = usize::from(cell);
+    let mut children = Items::new(alloc);
+    for tile in 0..tiles.len() {
+        if !fits(tiles, shape, cells, at, tile as u16) {
+            continue;
+        }
+        cells[at] = Some(tile as u16);
+        let grown = grow(alloc, tiles, radius, known, shape, cells, below, left);
+        cells[at] = None;
+        match grown {
+            Err(end) => return Err(end),
+            Ok((tree, rest)) => {
+                let child = Child {
+                    tile: tile as u16,
+                    tree,
+                };
+                match children.push(child) {
+                    Ok(()) => left = rest,
+                    Err(_) => return Err(BuildEnd::OutOfMemory),
+                }
+            }
+        }
+    }
+    Ok((Tree::Branch { cell, children }, left))
+}
+
+/// Builds the standard tree of the window of radius `radius` round a and b, b following a along the axis:
+/// at each node the right citation of a known entry with the least cell number, axis 1 before axis 2, else
+/// a branch on the free cell with the fewest fitting tiles, the least cell number first. The known entries
+/// ascend by radius, axis, first and second tile. `Spent` exactly where that tree has more nodes than the
+/// budget, if memory lasts. Where the window is empty the tree refutes it (`standard_trees_refute`).
+#[tactic(auto, using(wt_tile::proofs::Sizes::few_tiles))]
+pub fn build_tree(
+    alloc: Global,
+    set: SetRef<'_>,
+    axis: Axis,
+    a: u16,
+    b: u16,
+    radius: u8,
+    known: &[Refuted],
+    budget: u64,
+) -> Result<Tree, BuildEnd>
+    requires radius { radius ≤ 4 }
+    requires in_order { ascends known.now ≡ true }
+    ensures tree { IfOk result (λ t. refutation t ≡ standard_tree set.entry.list.now.tiles axis a b radius known.now) }
+    ensures enough { IfOk result (λ t. node_count (standard_tree set.entry.list.now.tiles axis a b radius known.now) ≤ budget) }
+    ensures spent { IsErrOf result BuildEnd.Spent → budget < node_count (standard_tree set.entry.list.now.tiles axis a b radius known.now) }
+{
+    let tiles = set.tiles();
+    let shape = shape_of(axis, radius);
+    let mut all = free_cells();
+    let cells = &mut all[..shape.0 * shape.1];
+    place_pair(axis, a, b, radius, shape, cells);
+    let depth = cells.len();
+    match grow(alloc, tiles, radius, known, shape, cells, depth, budget) {
+        Ok((tree, _)) => Ok(tree),
+        Err(end) => Err(end),
+    }
+}
