@@ -15,14 +15,17 @@ use Rattle.wt_grid.specs.Parts.{core, AllBelow, IsValid, IsWindow}
 use Rattle.wt_grid.proofs.Parts.{core_window, core_valid, core_below}
 use Rattle.wt_step.specs.declared.raw.RawStep.{RawStep}
 use Rattle.wt_step.specs.declared.raw.StepFault.TheVariants.{Node}
-use Rattle.wt_step.specs.Words.{allows, is_barred, entry_at, times, is_entry, entry_before, entry_fits, entries_follow, is_pair, axis_number}
+use Rattle.wt_step.specs.Words.{allows, is_barred, entry_at, times, entry_fits}
+use Rattle.wt_refute.specs.Entries.{is_entry, entry_before, entries_follow, axis_number}
+use Rattle.wt_grid.specs.Pairs.{is_pair}
 use Rattle.wt_step.specs.Faults.{tree_fault_at, tree_answer}
 use Rattle.wt_step.specs.Good.{GoodStep}
 use Rattle.wt_step.specs.Meaning.{allowing}
 use Rattle.wt_refute.proofs.Faults.{all_empty}
 use Rattle.wt_tile.specs.Matching.{grid_axis, tile_axis, matching}
 use Rattle.wt_pattern.specs.Windows.{IsEmptyWindow}
-use Rattle.wt_step.proofs.Keys.{entries_split}
+use Rattle.wt_refute.proofs.Entries.{entries_split}
+use Rattle.wt_step.proofs.Shaped.{refuted_ascend}
 use Rattle.wt_step.proofs.Shaped.{none_under}
 use Rattle.wt_step.proofs.Goodness.{is_pair_same}
 
@@ -80,7 +83,7 @@ grid_tile second_axis = refl
 module _ (s : RawStep) (g : GoodStep s) where
   pub known_entry : (i : ℕ) (k : Refuted) → slice_get s.refuted i ≡ Some k → entry_at s k.axis k.a k.b k.radius ≡ Some k
   known_entry i k e = found (entry_before k.radius k.axis k.a k.b) (is_entry k.radius k.axis k.a k.b) s.refuted i k
-      (entries_split s.radius (length s.fine.tiles) k.radius k.axis k.a k.b s.refuted g.shaped.refuted) e (entry_itself k)
+      (entries_split k.radius k.axis k.a k.b s.refuted (refuted_ascend s g.shaped)) e (entry_itself k)
 
   pub named_barred : (axis : Axis) (a b r : ℕ) (k : Refuted) → a < length s.fine.tiles → b < length s.fine.tiles → r ≤ s.radius → entry_at s axis a b r ≡ Some k → is_barred s axis a b ≡ true
   named_barred axis a b r k la lb le e = go (is_barred s axis a b) refl

@@ -13,7 +13,8 @@ use Rattle.wt_step.specs.declared.raw.RawStep.{RawStep}
 use Rattle.wt_morphism.specs.declared.image.Image.TheVariants.{One as Single, Two as Double}
 use Rattle.wt_step.specs.declared.raw.StepFault.{StepFault}
 use Rattle.wt_step.specs.declared.raw.StepFault.TheVariants.{Radius, Fine, Coarse, Markers, Allowed, RefutedList, Images, Pair, Marker, Image as BadImage, MissingTile, MissingPair, Join}
-use Rattle.wt_step.specs.Words.{is_pair, same_image, allowed, is_barred, is_block, image_at, images_match}
+use Rattle.wt_step.specs.Words.{same_image, allowed, is_barred, is_block, image_at, images_match}
+use Rattle.wt_grid.specs.Pairs.{is_pair}
 use Rattle.wt_step.specs.Faults.{unless, shape_fault, markers_fit, allowed_fit, refuted_fit, images_fit, is_named_well, trees_fault, pair_fault, row_fault, pairs_fault, is_marked_well, marker_fault_at, marker_fault, is_good_image, image_fault_at, image_fault, is_demanded, missing_tile_at, missing_tile, missing_pair_at, missing_pair, join_fault_at, join_row, join_fault, rules_fault, step_fault}
 use Rattle.wt_step.specs.Good.{GoodStep}
 use Rattle.wt_step.proofs.Shaped.{holds, shaped}

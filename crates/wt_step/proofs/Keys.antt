@@ -5,7 +5,9 @@ use Rattle.wt_tile.specs.declared.tile.Axis.{Axis}
 use Rattle.wt_refute.specs.declared.tree.Refuted.{Refuted}
 use Rattle.wt_grid.specs.Order.{in_order, IsSplit}
 use Rattle.wt_grid.proofs.Order.{split, both}
-use Rattle.wt_step.specs.Words.{pair_before, is_pair, pairs_follow, pair_fits, entry_before, is_entry, entries_follow, entry_fits, axis_number}
+use Rattle.wt_step.specs.Words.{pairs_follow, pair_fits, entry_fits}
+use Rattle.wt_grid.specs.Pairs.{pair_before, is_pair}
+use Rattle.wt_refute.specs.Entries.{entry_before, is_entry, entries_follow, axis_number}
 
 -- by a number, and where that is the same by p
 abbrev first_by : ℕ → ℕ → Bool → Bool
@@ -76,21 +78,3 @@ pairs_apart a b x e = by_apart x.0 a (nat_lt x.1 b) (nat_eq x.1 b) e (less_apart
 
 pub pairs_split : (n a b : ℕ) (ps : List (ℕ × ℕ)) → in_order (pair_fits n) pairs_follow ps ≡ true → IsSplit (pair_before a b) (is_pair a b) ps
 pairs_split n a b ps e = split (pair_before a b) (is_pair a b) (pair_fits n) pairs_follow (pairs_onward a b) (pairs_up_to a b) (pairs_apart a b) ps e
-
-entries_onward : (radius : ℕ) (axis : Axis) (a b : ℕ) (x y : Refuted) → entries_follow x y ≡ true → entry_before radius axis a b y ≡ true → entry_before radius axis a b x ≡ true
-entries_onward radius axis a b x y e f =
-    by_both x.radius y.radius radius (first_by (axis_number x.axis) (axis_number y.axis) (pair_before y.a y.b (x.a, x.b))) (first_by (axis_number y.axis) (axis_number axis) (pair_before a b (y.a, y.b))) (first_by (axis_number x.axis) (axis_number axis) (pair_before a b (x.a, x.b))) e f
-    (λ g h. by_both (axis_number x.axis) (axis_number y.axis) (axis_number axis) (pair_before y.a y.b (x.a, x.b)) (pair_before a b (y.a, y.b)) (pair_before a b (x.a, x.b)) g h (pairs_onward a b (x.a, x.b) (y.a, y.b)))
-
-entries_up_to : (radius : ℕ) (axis : Axis) (a b : ℕ) (x y : Refuted) → entries_follow x y ≡ true → is_entry radius axis a b y ≡ true → entry_before radius axis a b x ≡ true
-entries_up_to radius axis a b x y e f =
-    by_hit x.radius y.radius radius (first_by (axis_number x.axis) (axis_number y.axis) (pair_before y.a y.b (x.a, x.b))) (nat_eq (axis_number y.axis) (axis_number axis) && is_pair a b (y.a, y.b)) (first_by (axis_number x.axis) (axis_number axis) (pair_before a b (x.a, x.b))) e f
-    (λ g h. by_hit (axis_number x.axis) (axis_number y.axis) (axis_number axis) (pair_before y.a y.b (x.a, x.b)) (is_pair a b (y.a, y.b)) (pair_before a b (x.a, x.b)) g h (pairs_up_to a b (x.a, x.b) (y.a, y.b)))
-
-entries_apart : (radius : ℕ) (axis : Axis) (a b : ℕ) (x : Refuted) → entry_before radius axis a b x ≡ true → is_entry radius axis a b x ≡ false
-entries_apart radius axis a b x e =
-    by_apart x.radius radius (first_by (axis_number x.axis) (axis_number axis) (pair_before a b (x.a, x.b))) (nat_eq (axis_number x.axis) (axis_number axis) && is_pair a b (x.a, x.b)) e
-    (λ g. by_apart (axis_number x.axis) (axis_number axis) (pair_before a b (x.a, x.b)) (is_pair a b (x.a, x.b)) g (pairs_apart a b (x.a, x.b)))
-
-pub entries_split : (n m radius : ℕ) (axis : Axis) (a b : ℕ) (rs : List Refuted) → in_order (entry_fits n m) entries_follow rs ≡ true → IsSplit (entry_before radius axis a b) (is_entry radius axis a b) rs
-entries_split n m radius axis a b rs e = split (entry_before radius axis a b) (is_entry radius axis a b) (entry_fits n m) entries_follow (entries_onward radius axis a b) (entries_up_to radius axis a b) (entries_apart radius axis a b) rs e

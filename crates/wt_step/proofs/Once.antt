@@ -8,9 +8,11 @@ use Rattle.wt_grid.specs.First.{count_from}
 use Rattle.wt_grid.specs.Order.{IsSplit}
 use Rattle.wt_grid.proofs.First.{count_none}
 use Rattle.wt_step.specs.declared.raw.RawStep.{RawStep}
-use Rattle.wt_step.specs.Words.{entry_at, times, is_entry, entry_before}
+use Rattle.wt_step.specs.Words.{entry_at, times}
+use Rattle.wt_refute.specs.Entries.{is_entry, entry_before}
 use Rattle.wt_step.specs.Good.{GoodStep}
-use Rattle.wt_step.proofs.Keys.{entries_split}
+use Rattle.wt_refute.proofs.Entries.{entries_split}
+use Rattle.wt_step.proofs.Shaped.{refuted_ascend}
 use Rattle.wt_step.proofs.Cores.{above_at, known_entry, named_barred, fits_entry, entry_itself}
 
 -- a list that is split has at most one place with the key
@@ -78,4 +80,4 @@ module _ (s : RawStep) (g : GoodStep s) where
       let r = same_radius k.axis k.a k.b k.radius l.radius k l one fk.0 fl.0 ek el' in
       let hl : is_entry k.radius k.axis k.a k.b l ≡ true = rw (r, x, y, z) (entry_itself l) in
       one_place (entry_before k.radius k.axis k.a k.b) (is_entry k.radius k.axis k.a k.b) s.refuted i j k l
-      (entries_split s.radius (length s.fine.tiles) k.radius k.axis k.a k.b s.refuted g.shaped.refuted) e f (entry_itself k) hl
+      (entries_split k.radius k.axis k.a k.b s.refuted (refuted_ascend s g.shaped)) e f (entry_itself k) hl

@@ -1,9 +1,12 @@
 -- Lists without a fault are in order and in range.
-use Rattle.std.proofs.Common.{arith, ◌≡◌, Option, None, Some, option_map, Bool, true, false, nat_le, refl}
+use Rattle.std.proofs.Common.{arith, ◌≡◌, Option, None, Some, option_map, Bool, true, false, length, nat_le, refl}
 use Rattle.std.proofs.lemmas.Bool.Decides.{nat_tests}
 use Rattle.wt_tile.specs.declared.tile.Axis.{Axis}
 use Rattle.wt_tile.specs.declared.tile.Axis.TheVariants.{One, Two}
 use Rattle.wt_tile.specs.Sets.{set_fault}
+use Rattle.wt_refute.specs.Entries.{ascends}
+use Rattle.wt_refute.proofs.Entries.{ordered}
+use Rattle.wt_step.specs.Words.{entry_fits}
 use Rattle.wt_grid.proofs.First.{neither}
 use Rattle.wt_step.specs.declared.raw.RawStep.{RawStep}
 use Rattle.wt_step.specs.declared.raw.StepFault.{StepFault}
@@ -42,3 +45,6 @@ shaped s e =
     each : unless (allowed_fit s One) (Allowed One) ≡ None → unless (allowed_fit s Two) (Allowed Two) ≡ None → (axis : Axis) → allowed_fit s axis ≡ true
     each o t One = holds (allowed_fit s One) (Allowed One) o
     each o t Two = holds (allowed_fit s Two) (Allowed Two) t
+
+pub refuted_ascend : (s : RawStep) → IsShaped s → ascends s.refuted ≡ true
+refuted_ascend s h = ordered (entry_fits s.radius (length s.fine.tiles)) s.refuted h.refuted

@@ -16,7 +16,8 @@ use Rattle.wt_grid.proofs.Law.{unflipped, flipped}
 use Rattle.wt_step.specs.declared.raw.RawStep.{RawStep}
 use Rattle.wt_morphism.specs.declared.image.Image.{Image}
 use Rattle.wt_morphism.specs.declared.image.Image.TheVariants.{One as Single, Two as Double}
-use Rattle.wt_step.specs.Words.{is_pair, pair_fits, pairs_follow, same_image, allowed, allows, is_marker, is_block, joined, demands}
+use Rattle.wt_step.specs.Words.{pair_fits, pairs_follow, same_image, allowed, allows, is_marker, is_block, joined, demands}
+use Rattle.wt_grid.specs.Pairs.{is_pair}
 use Rattle.wt_step.specs.Faults.{is_good_image, is_demanded}
 use Rattle.wt_step.specs.Good.{GoodStep}
 use Rattle.wt_step.specs.Meaning.{piece, pieces, line_side}

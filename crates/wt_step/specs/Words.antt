@@ -10,17 +10,12 @@ use Rattle.wt_refute.specs.declared.tree.Refuted.{Refuted}
 use Rattle.wt_step.specs.declared.raw.RawStep.{RawStep}
 use Rattle.wt_morphism.specs.declared.image.Image.{Image}
 use Rattle.wt_morphism.specs.declared.image.Image.TheVariants.{One as Single, Two as Double}
+use Rattle.wt_refute.specs.Entries.{is_entry}
+use Rattle.wt_grid.specs.Pairs.{pair_before, is_pair}
 use Rattle.wt_grid.specs.Order.{has, find}
 use Rattle.wt_grid.specs.First.{count_from}
 
 -- Pairs of tiles, by the first and then by the second.
-
--- p comes before the pair of a and b
-abbrev pub pair_before : ℕ → ℕ → ℕ × ℕ → Bool
-pair_before a b p = nat_lt p.0 a || (nat_eq p.0 a && nat_lt p.1 b)
-
-abbrev pub is_pair : ℕ → ℕ → ℕ × ℕ → Bool
-is_pair a b p = nat_eq p.0 a && nat_eq p.1 b
 
 abbrev pub pairs_follow : ℕ × ℕ → ℕ × ℕ → Bool
 pairs_follow p q = pair_before q.0 q.1 p
@@ -28,24 +23,7 @@ pairs_follow p q = pair_before q.0 q.1 p
 abbrev pub pair_fits : ℕ → ℕ × ℕ → Bool
 pair_fits n p = nat_lt p.0 n && nat_lt p.1 n
 
--- Refutations, by radius, axis, first and second tile.
-
-abbrev pub axis_number : Axis → ℕ
-axis_number One = 1
-axis_number Two = 2
-
--- r comes before the entries of a radius, an axis and a pair
-abbrev pub entry_before : ℕ → Axis → ℕ → ℕ → Refuted → Bool
-entry_before radius axis a b r =
-    nat_lt r.radius radius
-    || (nat_eq r.radius radius && (nat_lt (axis_number r.axis) (axis_number axis)
-    || (nat_eq (axis_number r.axis) (axis_number axis) && pair_before a b (r.a, r.b))))
-
-abbrev pub is_entry : ℕ → Axis → ℕ → ℕ → Refuted → Bool
-is_entry radius axis a b r = nat_eq r.radius radius && (nat_eq (axis_number r.axis) (axis_number axis) && is_pair a b (r.a, r.b))
-
-abbrev pub entries_follow : Refuted → Refuted → Bool
-entries_follow r t = entry_before t.radius t.axis t.a t.b r
+-- Refutations.
 
 abbrev pub entry_fits : ℕ → ℕ → Refuted → Bool
 entry_fits radius n r = nat_le r.radius radius && nat_lt r.a n && nat_lt r.b n

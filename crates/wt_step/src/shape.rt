@@ -1,14 +1,14 @@
 // Lists in order and in range.
 ghost use Rattle.std.specs.Prelude.{◌≡◌, length};
 ghost use Rattle.wt_grid.specs.Order.{in_order, leads, all_of};
-ghost use Rattle.wt_step.specs.Words.{entries_follow, entry_fits as fits_entry, image_fits as fits_image, allowed as allowed_pairs};
+ghost use Rattle.wt_step.specs.Words.{entry_fits as fits_entry, image_fits as fits_image, allowed as allowed_pairs};
+ghost use Rattle.wt_refute.specs.Entries.{entries_follow};
 ghost use Rattle.wt_step.specs.Faults.{shape_fault as first_fault, markers_fit as markers_right, allowed_fit as allowed_right, refuted_fit as refuted_right, images_fit as images_right};
 
 use crate::order::{numbers_ascend, pairs_ascend};
-use crate::search::entry_before;
 use crate::{RawStep, StepFault};
 use wt_morphism::Image;
-use wt_refute::Refuted;
+use wt_refute::{Refuted, entry_before};
 use wt_tile::{Axis, set_fault};
 
 fn entry_fits(radius: u8, below: usize, entry: &Refuted) -> bool

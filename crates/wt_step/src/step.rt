@@ -31,6 +31,7 @@ fn count_coarse(raw: &RawStep) -> u16
     raw.coarse.tiles.as_slice().len() as u16
 }
 
+#[tactic(auto, using(crate::proofs::Shaped::refuted_ascend))]
 fn tree_fault_at(raw: &RawStep, axis: Axis, a: u16, b: u16, radius: u8) -> Option<StepFault>
     requires shaped { IsShaped raw.now }
     requires small { radius ≤ 4 }

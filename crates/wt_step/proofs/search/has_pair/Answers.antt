@@ -1,7 +1,7 @@
 use Rattle.std.proofs.Common.{◌≡◌, ◌∙◌, ◌++◌, sym}
 use Rattle.std.proofs.lemmas.List.{take-append-drop}
 use Rattle.wt_grid.proofs.Order.{up, down}
-use Rattle.wt_step.specs.Words.{pair_before, is_pair}
+use Rattle.wt_grid.specs.Pairs.{pair_before, is_pair}
 use Rattle.wt_step.proofs.search.has_pair.Goals as goal
 
 pub loop-front-preserved-then-pair_before : goal.loop-front-preserved-then-pair_before

@@ -1,6 +1,6 @@
 use Rattle.std.proofs.Common.{◌≡◌, length}
 use Rattle.wt_grid.specs.Order.{has, IsSplit}
-use Rattle.wt_step.specs.Words.{pair_before, is_pair}
+use Rattle.wt_grid.specs.Pairs.{pair_before, is_pair}
 use Rattle.wt_step.proofs.search.has_pair.Given as goal
 
 abbrev pub invariant-loop-front : goal.invariant-loop-front

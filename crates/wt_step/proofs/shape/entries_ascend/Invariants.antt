@@ -1,6 +1,7 @@
 use Rattle.std.proofs.Common.{◌≡◌, length}
 use Rattle.wt_grid.specs.Order.{in_order}
-use Rattle.wt_step.specs.Words.{entries_follow, entry_fits}
+use Rattle.wt_step.specs.Words.{entry_fits}
+use Rattle.wt_refute.specs.Entries.{entries_follow}
 use Rattle.wt_step.proofs.shape.entries_ascend.Given as goal
 
 abbrev pub invariant-loop-left : goal.invariant-loop-left
