@@ -7,3 +7,5 @@ pub mod Lines
 pub mod RowFaults
 pub mod PeriodFaults
 pub mod PartCells
+pub mod FaultLaws
+pub mod PeriodLaws

@@ -3,6 +3,7 @@
 
 mod cells;
 mod fault;
+mod laws;
 mod neighbours;
 mod parts;
 mod pattern;
@@ -12,6 +13,10 @@ mod validity;
 mod window;
 
 pub use fault::{Fault, PartFault, ShapeFault};
+pub use laws::{
+    faults, period_faults, period_lines, period_turns, signs_of_periods, tiles_faults, valid_lines,
+    window_sizes,
+};
 pub use parts::{core, part};
 pub use pattern::Pattern;
 pub use periods::period_fault;
