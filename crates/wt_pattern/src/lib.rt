@@ -9,6 +9,8 @@ mod parts;
 mod pattern;
 mod periods;
 mod rows;
+#[cfg(test)]
+mod tests;
 mod validity;
 mod window;
 
