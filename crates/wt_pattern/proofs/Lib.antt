@@ -9,3 +9,5 @@ pub mod PeriodFaults
 pub mod PartCells
 pub mod Stacks
 pub mod CellForms
+pub mod FaultLaws
+pub mod PeriodLaws

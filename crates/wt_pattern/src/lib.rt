@@ -3,16 +3,23 @@
 
 mod cells;
 mod fault;
+mod laws;
 mod neighbours;
 mod parts;
 mod pattern;
 mod periods;
 mod rows;
 mod text;
+#[cfg(test)]
+mod tests;
 mod validity;
 mod window;
 
 pub use fault::{Fault, PartFault, ShapeFault};
+pub use laws::{
+    faults, period_faults, period_lines, period_turns, signs_of_periods, tiles_faults, valid_lines,
+    window_sizes,
+};
 pub use parts::{core, part};
 pub use pattern::Pattern;
 pub use periods::period_fault;
