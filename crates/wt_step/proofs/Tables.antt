@@ -78,12 +78,12 @@ fits_at n (p ∷ ps) a b o h =
     go false t r f g = r (rw t at h)
 
 -- Images.
-from_piece : (o : Option Image) (a : ℕ) → option_map piece o ≡ Some (one a) → o ≡ Some (Single a)
+pub from_piece : (o : Option Image) (a : ℕ) → option_map piece o ≡ Some (one a) → o ≡ Some (Single a)
 from_piece None a e = absurd cc
 from_piece (Some (Single x)) a e = let f : Some (one x) ≡ Some (one a) = e in cc
 from_piece (Some (Double x y)) a e = absurd cc
 
-from_pieces : (o : Option Image) (a b : ℕ) → option_map piece o ≡ Some (two a b) → o ≡ Some (Double a b)
+pub from_pieces : (o : Option Image) (a b : ℕ) → option_map piece o ≡ Some (two a b) → o ≡ Some (Double a b)
 from_pieces None a b e = absurd cc
 from_pieces (Some (Single x)) a b e = absurd cc
 from_pieces (Some (Double x y)) a b e = let f : Some (two x y) ≡ Some (two a b) = e in cc
@@ -131,8 +131,8 @@ module _ (s : RawStep) (g : GoodStep s) where
       let d' = subst P r.1 d in
       let h = has_before (same_image x) s.images i j x e lt (same_image_itself x) in cc
 
-  one_place : (i j : ℕ) (x : Image) → slice_get s.images i ≡ Some x → slice_get s.images j ≡ Some x → i ≡ j
-  one_place i j x e f = elim (cases_lt i j) [
+  pub one_image : (i j : ℕ) (x : Image) → slice_get s.images i ≡ Some x → slice_get s.images j ≡ Some x → i ≡ j
+  one_image i j x e f = elim (cases_lt i j) [
     | inl lt ↦ absurd (once i j x e f lt)
     | inr le ↦ elim (cases_lt j i) [
       | inl lt ↦ absurd (once j i x f e lt)
@@ -141,8 +141,8 @@ module _ (s : RawStep) (g : GoodStep s) where
   ]
 
   pub distinct : (i j : ℕ) (p : Piece) → slice_get (pieces s) i ≡ Some p → slice_get (pieces s) j ≡ Some p → i ≡ j
-  distinct i j (one a) e f = one_place i j (Single a) (from_piece (slice_get s.images i) a (sym (slice_get-map piece s.images i) ∙ e)) (from_piece (slice_get s.images j) a (sym (slice_get-map piece s.images j) ∙ f))
-  distinct i j (two a b) e f = one_place i j (Double a b) (from_pieces (slice_get s.images i) a b (sym (slice_get-map piece s.images i) ∙ e)) (from_pieces (slice_get s.images j) a b (sym (slice_get-map piece s.images j) ∙ f))
+  distinct i j (one a) e f = one_image i j (Single a) (from_piece (slice_get s.images i) a (sym (slice_get-map piece s.images i) ∙ e)) (from_piece (slice_get s.images j) a (sym (slice_get-map piece s.images j) ∙ f))
+  distinct i j (two a b) e f = one_image i j (Double a b) (from_pieces (slice_get s.images i) a b (sym (slice_get-map piece s.images i) ∙ e)) (from_pieces (slice_get s.images j) a b (sym (slice_get-map piece s.images j) ∙ f))
 
   pub in_range : (axis : Axis) (a b : ℕ) → allows s axis a b ≡ true → (a < length s.fine.tiles) × (b < length s.fine.tiles)
   in_range axis a b h = fits_at (length s.fine.tiles) (allowed s axis) a b (g.shaped.allowed axis) h

@@ -123,3 +123,8 @@ abbrev pub images_match : RawStep → Axis → Image → Image → Bool
 images_match s axis x y =
     if same_axis axis s.axis then matches s.fine.tiles axis (last_tile x) (first_tile y)
     else pieces_match s.fine.tiles axis x y
+
+-- whether a line ends a block, given whether it is a line of markers
+abbrev pub ends_block : Side → Bool → Bool
+ends_block After marked = marked
+ends_block Before marked = not marked

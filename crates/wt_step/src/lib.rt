@@ -1,9 +1,12 @@
 //! Steps of desubstitution.
 #![tactic(auto)]
 
+mod blocks;
 mod borrowed;
+mod cells;
 mod copy;
 mod good;
+mod index;
 mod law;
 mod link;
 mod order;

@@ -1,0 +1,144 @@
+-- The coarse rectangle that is read from the blocks of a pattern is the one of the law.
+use Rattle.std.proofs.Common.{arith, ◌≡◌, ◌≤◌, ◌<◌, ◌+◌, ◌-◌, ◌*◌, ◌&&◌, ℕ, zero, suc, List, [], ◌∷◌, length, get_or, Bool, true, false, not, nat_lt, if◌then◌else◌, refl, sym, ◌∙◌, ap, subst}
+use Rattle.std.proofs.lemmas.Bool.Decides.{nat_tests}
+use Rattle.wt_tile.specs.declared.tile.Axis.{Axis}
+use Rattle.wt_tile.specs.declared.tile.Axis.TheVariants.{One, Two}
+use Rattle.wt_tile.specs.Matching.{grid_axis}
+use Rattle.wt_grid.specs.Lines.{IsImage, AllLong, is_marker_line}
+use Rattle.wt_grid.specs.Cuts.{cut}
+use Rattle.wt_grid.specs.Grid.{Grid, IsGrid, cell, along, across, at, listed, lines, grid_of}
+use Rattle.wt_grid.specs.Grid.{Axis as GridAxis, one as first_axis, two as second_axis}
+use Rattle.wt_grid.specs.Parts.{core}
+use Rattle.wt_grid.proofs.Parts.{at_core, along_core, across_core, grid_grid}
+use Rattle.wt_grid.proofs.Bridge.{length-listed, get_or-listed, cell_of}
+use Rattle.wt_grid.proofs.Law.{cut_long}
+use Rattle.wt_grid.proofs.Grids.{length_lines, long_lines, long_coarse}
+use Rattle.wt_grid.proofs.Rectangles.{same_cells, wide_along}
+use Rattle.wt_pattern.specs.Patterns.{IsPattern}
+use Rattle.wt_step.specs.declared.raw.RawStep.{RawStep}
+use Rattle.wt_step.specs.declared.blocks.Block.{Block}
+use Rattle.wt_step.specs.Words.{is_marker, ends_block}
+use Rattle.wt_step.specs.Good.{GoodStep}
+use Rattle.wt_step.specs.Meaning.{line_side, pieces, IsCoarse}
+use Rattle.wt_step.specs.Blocks.{cell_at, core_at, is_marked_line, pairs_at, blocks_in, block_tile, block_at, coarse_at, coarse_grid, IsIndexed}
+use Rattle.wt_step.proofs.Desubstitution.{some_coarse}
+use Rattle.wt_step.proofs.CutListed.{one_if, behind, cut_listed}
+use Rattle.wt_step.proofs.Readings.{Reads, reads, length-reads, tiles}
+
+listed_same : {A : Type 0} (n : ℕ) (f h : ℕ → A) → ((k : ℕ) → k < n → f k ≡ h k) → listed n f ≡ listed n h
+listed_same zero f h e = refl
+listed_same (suc n) f h e = same_cons (f 0) (h 0) (listed n (λ k. f (suc k))) (listed n (λ k. h (suc k))) (e 0 (omega arith)) (listed_same n (λ k. f (suc k)) (λ k. h (suc k)) (λ k lt. e (suc k) (omega arith)))
+  where
+    same_cons : {A : Type 0} (x y : A) (xs ys : List A) → x ≡ y → xs ≡ ys → x ∷ xs ≡ y ∷ ys
+    same_cons x y xs ys e f = cc
+
+line_cell : (axis : GridAxis) (g : Grid) (i j : ℕ) → i < along axis g → j < across axis g → get_or (get_or (lines axis g) i []) j 0 ≡ at axis g i j
+line_cell axis g i j li lj =
+    ap (λ (u : List ℕ). get_or u j 0) (get_or-listed (along axis g) i (λ i. listed (across axis g) (λ j. at axis g i j)) [] li)
+    ∙ get_or-listed (across axis g) j (λ j. at axis g i j) 0 lj
+
+one_length : (a b : ℕ) (ls : List (List ℕ)) → 1 ≤ length ls → AllLong a ls → AllLong b ls → a ≡ b
+one_length a b [] le h k = absurd (omega arith)
+one_length a b (u ∷ ls) le h k = sym h.0 ∙ k.0
+
+true_both : (a b : Bool) → a ≡ true → b ≡ true → (a && b) ≡ true
+true_both a b e f = rw (e, f) refl
+
+from_behind : (b : Bool) (f : ℕ → List ℕ) (k : ℕ) → behind b f k ≡ f (one_if b + k)
+from_behind true f k = let e : suc k ≡ 1 + k = omega arith in ap f e
+from_behind false f k = let e : k ≡ 0 + k = omega arith in ap f e
+
+module _ (s : RawStep) (p : Grid) (ones twos : List ℕ) (bs : List Block) (m : ℕ) (some : 1 ≤ m) (lines_some : 1 ≤ length bs) where
+  same_grid : (axis : Axis) (q : Grid) → IsGrid q → along (grid_axis axis) q ≡ length bs → across (grid_axis axis) q ≡ m
+      → ((i j : ℕ) → i < length bs → j < m → at (grid_axis axis) q i j ≡ block_tile s p ones twos (block_at bs i) j) → coarse_grid s p ones twos bs axis m ≡ q
+  same_grid One q iq w h e =
+      same_cells (grid_of (length bs) m (coarse_at s p ones twos bs One)) q (grid_grid (length bs) m (coarse_at s p ones twos bs One) lines_some some) iq (sym w) (sym h)
+      (λ x y lx ly. cell_of (length bs) m x y (coarse_at s p ones twos bs One) lx ly ∙ sym (e x y lx ly))
+  same_grid Two q iq w h e =
+      same_cells (grid_of m (length bs) (coarse_at s p ones twos bs Two)) q (grid_grid m (length bs) (coarse_at s p ones twos bs Two) some lines_some) iq (sym h) (sym w)
+      (λ x y lx ly. cell_of m (length bs) x y (coarse_at s p ones twos bs Two) lx ly ∙ sym (e y x ly lx))
+
+module _ (s : RawStep) (g : GoodStep s) (p : Grid) where
+  -- a cell of the core
+  core_cell : (i j : ℕ) → i < along (grid_axis s.axis) (core s.radius p) → j < across (grid_axis s.axis) (core s.radius p) → at (grid_axis s.axis) (core s.radius p) i j ≡ core_at s p i j
+  core_cell i j li lj =
+      let x = along_core (grid_axis s.axis) s.radius p in
+      let y = across_core (grid_axis s.axis) s.radius p in
+      let tx : nat_lt (s.radius + i) (along (grid_axis s.axis) p) ≡ true = (let lt : s.radius + i < along (grid_axis s.axis) p = omega arith in grind (arith, nat_tests, lt)) in
+      let ty : nat_lt (s.radius + j) (across (grid_axis s.axis) p) ≡ true = (let lt : s.radius + j < across (grid_axis s.axis) p = omega arith in grind (arith, nat_tests, lt)) in
+      at_core (grid_axis s.axis) s.radius p i j li lj ∙ sym (rw (tx, ty) refl)
+
+  abbrev low : Bool
+  low = ends_block s.side (is_marked_line s p 0)
+
+  abbrev high : Bool
+  high = not (ends_block s.side (is_marked_line s p (along (grid_axis s.axis) (core s.radius p) - 1)))
+
+  module _ (h : IsPattern s.fine.tiles p) (la : 3 ≤ along (grid_axis s.axis) (core s.radius p)) (m : ℕ) (em : across (grid_axis s.axis) (core s.radius p) ≡ suc m) where
+    abbrev n : ℕ
+    n = along (grid_axis s.axis) (core s.radius p)
+
+    abbrev F : ℕ → List ℕ
+    F i = listed (across (grid_axis s.axis) (core s.radius p)) (λ j. at (grid_axis s.axis) (core s.radius p) i j)
+
+    line_same : (i : ℕ) → i < n → F i ≡ listed (suc m) (core_at s p i)
+    line_same i lt =
+        listed_same (across (grid_axis s.axis) (core s.radius p)) (λ j. at (grid_axis s.axis) (core s.radius p) i j) (core_at s p i) (λ j lj. core_cell i j lt lj)
+        ∙ ap (λ (k : ℕ). listed k (core_at s p i)) em
+
+    flag_same : (i : ℕ) → i < n → is_marker_line (is_marker s) (F i) ≡ is_marked_line s p i
+    flag_same i lt = ap (is_marker_line (is_marker s)) (line_same i lt)
+
+    same_cut : (c c' : ℕ) (a a' b b' : Bool) → c ≡ c' → a ≡ a' → b ≡ b'
+        → listed (c - (one_if (ends_block s.side a) + one_if (not (ends_block s.side b)))) (behind (ends_block s.side a) F)
+        ≡ listed (c' - (one_if (ends_block s.side a') + one_if (not (ends_block s.side b')))) (behind (ends_block s.side a') F)
+    same_cut c c' a a' b b' ec ea eb = rw (ec, ea, eb) refl
+
+    cut_is : cut (line_side s.side) (is_marker s) (lines (grid_axis s.axis) (core s.radius p)) ≡ listed (n - (one_if low + one_if high)) (behind low F)
+    cut_is =
+        let e : n ≡ suc (suc (n - 2)) = omega arith in
+        let last : suc (n - 2) ≡ n - 1 = omega arith in
+        ap (λ (c : ℕ). cut (line_side s.side) (is_marker s) (listed c F)) e
+        ∙ (cut_listed (is_marker s) s.side (n - 2) F
+        ∙ same_cut (suc (suc (n - 2))) n (is_marker_line (is_marker s) (F 0)) (is_marked_line s p 0) (is_marker_line (is_marker s) (F (suc (n - 2)))) (is_marked_line s p (n - 1))
+        (sym e) (flag_same 0 (omega arith)) (flag_same (suc (n - 2)) (omega arith) ∙ ap (is_marked_line s p) last))
+
+    the_reads : (qs : List (List ℕ)) → IsImage (pieces s) qs (cut (line_side s.side) (is_marker s) (lines (grid_axis s.axis) (core s.radius p)))
+        → Reads (pieces s) (λ i. listed (suc m) (core_at s p i)) (blocks_in (pairs_at s p) false (one_if low) (n - (one_if low + one_if high))) qs
+    the_reads qs i =
+        reads s g (λ i. core_at s p i 0) (λ i. listed m (λ j. core_at s p i (suc j))) (n - (one_if low + one_if high)) (one_if low) (behind low F)
+        (λ k lt. from_behind low F k ∙ line_same (one_if low + k) (omega arith)) qs (subst (λ (ls : List (List ℕ)). IsImage (pieces s) qs ls) cut_is i)
+
+    module _ (bs : List Block) (eb : bs ≡ blocks_in (pairs_at s p) false (one_if low) (n - (one_if low + one_if high))) (ones twos : List ℕ)
+        (index : IsIndexed s.images (length s.fine.tiles) (length s.images) ones twos) where
+      law : (q : Grid) × IsCoarse s p q × IsPattern s.coarse.tiles q
+      law = some_coarse s g p h la (omega arith)
+
+      read : (q : Grid) → IsCoarse s p q → Reads (pieces s) (λ i. listed (suc m) (core_at s p i)) bs (lines (grid_axis s.axis) q)
+      read q i = subst (λ (cs : List Block). Reads (pieces s) (λ i. listed (suc m) (core_at s p i)) cs (lines (grid_axis s.axis) q)) (sym eb) (the_reads (lines (grid_axis s.axis) q) i)
+
+      as_long : (q : Grid) → IsCoarse s p q → along (grid_axis s.axis) q ≡ length bs
+      as_long q i = sym (length-reads (pieces s) (λ i. listed (suc m) (core_at s p i)) bs (lines (grid_axis s.axis) q) (read q i) ∙ length_lines (grid_axis s.axis) q)
+
+      as_wide : (q : Grid) → IsGrid q → IsCoarse s p q → across (grid_axis s.axis) q ≡ suc m
+      as_wide q iq i =
+          let long = cut_long (line_side s.side) (across (grid_axis s.axis) (core s.radius p)) (is_marker s) (lines (grid_axis s.axis) (core s.radius p)) (long_lines (grid_axis s.axis) (core s.radius p)) in
+          let k = long_coarse (pieces s) (across (grid_axis s.axis) (core s.radius p)) (lines (grid_axis s.axis) q) (cut (line_side s.side) (is_marker s) (lines (grid_axis s.axis) (core s.radius p))) i long in
+          let some = wide_along (grid_axis s.axis) q iq in
+          let size = length_lines (grid_axis s.axis) q in
+          one_length (across (grid_axis s.axis) q) (across (grid_axis s.axis) (core s.radius p)) (lines (grid_axis s.axis) q) (omega arith) (long_lines (grid_axis s.axis) q) k ∙ em
+
+      pub some_blocks : 1 ≤ length bs
+      some_blocks = let q = law in let pat : IsPattern s.coarse.tiles q.0 = q.2 in let e = as_long q.0 q.1 in let w = wide_along (grid_axis s.axis) q.0 pat.0 in omega arith
+
+      -- the rectangle of the blocks is the coarse one of the law
+      pub parsed : IsCoarse s p (coarse_grid s p ones twos bs s.axis (suc m)) × IsPattern s.coarse.tiles (coarse_grid s p ones twos bs s.axis (suc m))
+      parsed =
+          let q = law in
+          let pat : IsPattern s.coarse.tiles q.0 = q.2 in
+          let iq : IsGrid q.0 = pat.0 in
+          let l = as_long q.0 q.1 in
+          let w = as_wide q.0 iq q.1 in
+          let same : coarse_grid s p ones twos bs s.axis (suc m) ≡ q.0 = same_grid s p ones twos bs (suc m) (omega arith) some_blocks s.axis q.0 iq l w
+              (λ i j li lj. sym (line_cell (grid_axis s.axis) q.0 i j (omega arith) (omega arith)) ∙ tiles s g p (suc m) ones twos index bs (lines (grid_axis s.axis) q.0) (read q.0 q.1) i j li lj) in
+          subst (λ (r : Grid). IsCoarse s p r × IsPattern s.coarse.tiles r) (sym same) (q.1, pat)

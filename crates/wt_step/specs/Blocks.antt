@@ -1,0 +1,72 @@
+-- How a pattern is read: blocks of one or two lines, and the coarse tile of each.
+use Rattle.std.specs.Prelude.{ℕ, zero, suc, ◌+◌, ◌*◌, ◌/◌, ◌%◌, ◌<◌, ◌≡◌, Bool, true, false, ◌&&◌, nat_lt, List, [], ◌∷◌, length, slice_get, slice_index, slice_index_or, slice_set, Some, if◌then◌else◌}
+use Rattle.wt_tile.specs.declared.tile.Axis.{Axis}
+use Rattle.wt_tile.specs.declared.tile.Axis.TheVariants.{One, Two}
+use Rattle.wt_tile.specs.Matching.{grid_axis}
+use Rattle.wt_grid.specs.Grid.{Grid, along, across, at, grid_of}
+use Rattle.wt_step.specs.declared.raw.RawStep.{RawStep}
+use Rattle.wt_step.specs.declared.blocks.Block.{Block}
+use Rattle.wt_morphism.specs.declared.image.Image.{Image}
+use Rattle.wt_morphism.specs.declared.image.Image.TheVariants.{One as Single, Two as Double}
+use Rattle.wt_step.specs.Words.{is_marker, joined}
+
+-- cell j of line i, or 0 outside
+abbrev pub cell_at : Grid → Axis → ℕ → ℕ → ℕ
+cell_at p axis i j = if nat_lt i (along (grid_axis axis) p) && nat_lt j (across (grid_axis axis) p) then at (grid_axis axis) p i j else 0
+
+-- cell j of line i of the core
+abbrev pub core_at : RawStep → Grid → ℕ → ℕ → ℕ
+core_at s p i j = cell_at p s.axis (s.radius + i) (s.radius + j)
+
+abbrev pub is_marked_line : RawStep → Grid → ℕ → Bool
+is_marked_line s p i = is_marker s (core_at s p i 0)
+
+-- lines i and i + 1 are one block
+abbrev pub pairs_at : RawStep → Grid → ℕ → Bool
+pairs_at s p i = joined s.side (is_marked_line s p i) (is_marked_line s p (i + 1))
+
+-- the blocks of n lines from line i on, where the first of them may end a block
+abbrev pub blocks_in : (ℕ → Bool) → Bool → ℕ → ℕ → List Block
+blocks_in pairs inside i zero = []
+blocks_in pairs true i (suc n) = blocks_in pairs false (i + 1) n
+blocks_in pairs false i (suc zero) = record { line = i; double = false } ∷ []
+blocks_in pairs false i (suc (suc n)) = record { line = i; double = pairs i } ∷ blocks_in pairs (pairs i) (i + 1) (suc n)
+
+-- the numbers of the first k images, by their tiles of n
+pub record IsIndexed (images : List Image) (n k : ℕ) (singles pairs : List ℕ) : Type 0 where
+  pub size1 : length singles ≡ n
+  pub size2 : length pairs ≡ n * n
+  pub ones : (i a : ℕ) → i < k → slice_get images i ≡ Some (Single a) → slice_index singles a ≡ i
+  pub twos : (i a b : ℕ) → i < k → slice_get images i ≡ Some (Double a b) → slice_index pairs (a * n + b) ≡ i
+
+-- the lists with image number i noted at its tiles
+abbrev pub note_single : Image → ℕ → List ℕ → List ℕ
+note_single (Single a) i singles = slice_set singles a i
+note_single (Double a b) i singles = singles
+
+abbrev pub note_pair : ℕ → Image → ℕ → List ℕ → List ℕ
+note_pair n (Single a) i pairs = pairs
+note_pair n (Double a b) i pairs = slice_set pairs (a * n + b) i
+
+-- the coarse tile of cell j of a block
+abbrev pub block_tile : RawStep → Grid → List ℕ → List ℕ → Block → ℕ → ℕ
+block_tile s p singles pairs block j =
+    if block.double then slice_index pairs (core_at s p block.line j * length s.fine.tiles + core_at s p (block.line + 1) j)
+    else slice_index singles (core_at s p block.line j)
+
+abbrev pub block_at : List Block → ℕ → Block
+block_at blocks i = slice_index_or blocks i (record { line = 0; double = false })
+
+-- the coarse tile at column x of row y
+abbrev pub coarse_at : RawStep → Grid → List ℕ → List ℕ → List Block → Axis → ℕ → ℕ → ℕ
+coarse_at s p singles pairs blocks One x y = block_tile s p singles pairs (block_at blocks x) y
+coarse_at s p singles pairs blocks Two x y = block_tile s p singles pairs (block_at blocks y) x
+
+-- cell k in reading order
+abbrev pub coarse_cell : RawStep → Grid → List ℕ → List ℕ → List Block → ℕ → ℕ → ℕ
+coarse_cell s p singles pairs blocks width k = coarse_at s p singles pairs blocks s.axis (k % width) (k / width)
+
+-- the coarse rectangle of these blocks, of m cells each along the other axis
+abbrev pub coarse_grid : RawStep → Grid → List ℕ → List ℕ → List Block → Axis → ℕ → Grid
+coarse_grid s p singles pairs blocks One m = grid_of (length blocks) m (coarse_at s p singles pairs blocks One)
+coarse_grid s p singles pairs blocks Two m = grid_of m (length blocks) (coarse_at s p singles pairs blocks Two)

@@ -1,0 +1,43 @@
+-- What desubstitution answers for a step of either kind.
+use Rattle.std.specs.Prelude.{ℕ, ◌+◌, ◌-◌, Bool, false, ◌&&◌, not, nat_le, Option, Some, option_map, if◌then◌else◌, None}
+use Rattle.wt_tile.specs.Matching.{grid_axis}
+use Rattle.wt_grid.specs.First.{or_else}
+use Rattle.wt_grid.specs.Grid.{Grid, along, across, at}
+use Rattle.wt_grid.specs.Parts.{core}
+use Rattle.wt_pattern.specs.Validity.{first_fault}
+use Rattle.wt_step.specs.declared.raw.RawStep.{RawStep}
+use Rattle.wt_step.specs.declared.raw.RawLink.{RawLink}
+use Rattle.wt_step.specs.declared.raw.RawLink.TheVariants.{Marker, Restrict}
+use Rattle.wt_step.specs.declared.coarse.DesubFault.{DesubFault}
+use Rattle.wt_step.specs.declared.coarse.DesubFault.TheVariants.{NotValid, TooSmall}
+use Rattle.wt_step.specs.Words.{is_marker, ends_block}
+use Rattle.wt_step.specs.Links.{fine_of}
+use Rattle.wt_step.specs.Meaning.{IsCoarse, IsKept}
+
+-- the coarse pattern q has the cut core of p as its image
+abbrev pub IsCoarseOf : RawLink → Grid → Grid → Type 0
+IsCoarseOf (Marker s) p q = IsCoarse s p q
+IsCoarseOf (Restrict s) p q = IsKept s p q
+
+-- the core is as large as the law of desubstitution asks
+abbrev pub has_margin : RawLink → Grid → Bool
+has_margin (Marker s) p = nat_le 3 (along (grid_axis s.axis) (core s.radius p)) && nat_le 1 (across (grid_axis s.axis) (core s.radius p))
+has_margin (Restrict s) p = nat_le 1 (core s.radius p).width && nat_le 1 (core s.radius p).height
+
+-- whether line i of the core is a line of markers, by its first cell
+abbrev pub is_marked : RawStep → Grid → ℕ → Bool
+is_marked s p i = is_marker s (at (grid_axis s.axis) (core s.radius p) i 0)
+
+-- whether the first line of the core is cut
+abbrev pub cuts_low : RawLink → Grid → Bool
+cuts_low (Marker s) p = ends_block s.side (is_marked s p 0)
+cuts_low (Restrict s) p = false
+
+-- whether the last line of the core is cut: it begins a block
+abbrev pub cuts_high : RawLink → Grid → Bool
+cuts_high (Marker s) p = not (ends_block s.side (is_marked s p (along (grid_axis s.axis) (core s.radius p) - 1)))
+cuts_high (Restrict s) p = false
+
+-- why a pattern isn't taken apart: it isn't valid, then its core is too small
+abbrev pub desub_fault : RawLink → Grid → Option DesubFault
+desub_fault l p = or_else (option_map NotValid (first_fault (fine_of l).tiles p)) (if has_margin l p then None else Some TooSmall)

@@ -1,0 +1,118 @@
+// The blocks of a pattern's core: one or two lines that stand for one coarse line.
+ghost use Rattle.std.specs.Prelude.{◌≡◌, ◌≤◌, ◌<◌, ◌-◌, ◌&&◌, nat_lt, false, IfOk};
+ghost use Rattle.wt_tile.specs.Matching.{grid_axis};
+ghost use Rattle.wt_grid.specs.Grid.{along, across};
+ghost use Rattle.wt_step.specs.Blocks.{cell_at as cell_of, core_at as core_of, is_marked_line as marks_line, pairs_at as pairs_of, blocks_in};
+
+use crate::RawStep;
+use crate::rules::{is_marker, joined};
+use std::alloc::{AllocError, Global};
+use wt_pattern::Pattern;
+use wt_tile::Axis;
+
+/// One line of a core, or two, that stand for one coarse line.
+#[derive(Clone, Copy)]
+pub struct Block {
+    pub line: u16,
+    pub double: bool,
+}
+
+/// The lines of a pattern along an axis.
+pub fn count_lines(p: &Pattern, axis: Axis) -> usize
+    ensures value { result ≡ along (grid_axis axis) p.now }
+    ensures some { 1 ≤ result }
+    ensures small { result ≤ 4096 }
+{
+    match axis {
+        Axis::One => p.width(),
+        Axis::Two => p.height(),
+    }
+}
+
+/// The cells of a line along an axis.
+pub fn count_across(p: &Pattern, axis: Axis) -> usize
+    ensures value { result ≡ across (grid_axis axis) p.now }
+    ensures some { 1 ≤ result }
+    ensures small { result ≤ 4096 }
+{
+    match axis {
+        Axis::One => p.height(),
+        Axis::Two => p.width(),
+    }
+}
+
+/// Cell j of line i, or 0 outside.
+fn cell_at(p: &Pattern, axis: Axis, i: usize, j: usize) -> u16
+    ensures { result ≡ cell_of p.now axis i j }
+{
+    if i >= count_lines(p, axis) || j >= count_across(p, axis) {
+        return 0;
+    }
+    match axis {
+        Axis::One => p.cell(i, j),
+        Axis::Two => p.cell(j, i),
+    }
+}
+
+/// Cell j of line i of the core.
+pub fn core_at(raw: &RawStep, p: &Pattern, i: usize, j: usize) -> u16
+    requires line { i < 16777217 }
+    requires cell { j < 16777217 }
+    ensures { result ≡ core_of raw.now p.now i j }
+{
+    let radius = usize::from(raw.radius);
+    cell_at(p, raw.axis, radius + i, radius + j)
+}
+
+fn is_marked_line(raw: &RawStep, p: &Pattern, i: usize) -> bool
+    requires { i < 16777217 }
+    ensures { result ≡ marks_line raw.now p.now i }
+{
+    is_marker(raw, core_at(raw, p, i, 0))
+}
+
+/// Whether lines i and i + 1 are one block.
+fn pairs_at(raw: &RawStep, p: &Pattern, i: usize) -> bool
+    requires { i < 16777216 }
+    ensures { result ≡ pairs_of raw.now p.now i }
+{
+    joined(
+        raw.side,
+        is_marked_line(raw, p, i),
+        is_marked_line(raw, p, i + 1),
+    )
+}
+
+/// Whether the block that begins with a line has another line, where the lines end before another.
+fn is_double(raw: &RawStep, p: &Pattern, line: u16, end: u16) -> bool
+    requires { line < end }
+    ensures { result ≡ (nat_lt 1 (end - line) && pairs_of raw.now p.now line) }
+{
+    end - line > 1 && pairs_at(raw, p, usize::from(line))
+}
+
+/// The blocks of the lines from one up to another.
+pub fn find_blocks(
+    alloc: Global,
+    raw: &RawStep,
+    p: &Pattern,
+    from: u16,
+    end: u16,
+) -> Result<Vec<Block>, AllocError>
+    ensures { IfOk result (λ blocks. blocks.items ≡ blocks_in (pairs_of raw.now p.now) false from (end - from)) }
+{
+    let mut blocks = Vec::new(alloc);
+    let mut inside = false;
+    for line in from..end {
+        if inside {
+            inside = false;
+        } else {
+            inside = is_double(raw, p, line, end);
+            blocks.push(Block {
+                line,
+                double: inside,
+            })?;
+        }
+    }
+    Ok(blocks)
+}
