@@ -9,3 +9,4 @@ pub mod PeriodFaults
 pub mod PartCells
 pub mod Stacks
 pub mod CellForms
+pub mod Written

@@ -8,3 +8,4 @@ pub mod TileRows
 pub mod Numbered
 pub mod PatternRows
 pub mod Cells
+pub mod Writing

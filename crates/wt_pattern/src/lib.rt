@@ -11,6 +11,7 @@ mod rows;
 mod text;
 mod validity;
 mod window;
+mod writing;
 
 pub use fault::{Fault, PartFault, ShapeFault};
 pub use parts::{core, part};
@@ -20,4 +21,5 @@ pub use rows::tiles_at;
 pub use text::{pattern_at, read_pattern, read_set};
 pub use validity::{tiles_fault, valid};
 pub use window::window_shape;
+pub use writing::{pattern_text, push_pattern, push_tiles, write_set};
 pub use wt_line::{TextFault, What};
