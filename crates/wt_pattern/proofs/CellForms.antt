@@ -59,7 +59,7 @@ cells_line width le = fit_line (cells_some width le) (cells_format width)
 pub rows_law : (width height : ℕ) → 1 ≤ width → IsPart (cells_rows width height) (flat (line_spelling cells_spelling)) (λ rows. (length rows ≡ height) × FitInTurn (λ s. CellsFit width) no_state 0 rows)
 rows_law width height le = many_part no_state (λ s. line_part (cells_line width le)) 0 height
 
-stacked_length : (width : ℕ) (rows : List (List ℕ)) → FitInTurn (λ s. CellsFit width) no_state 0 rows → length (from_bottom rows) ≡ width * length rows
+pub stacked_length : (width : ℕ) (rows : List (List ℕ)) → FitInTurn (λ s. CellsFit width) no_state 0 rows → length (from_bottom rows) ≡ width * length rows
 stacked_length width [] fits = omega arith
 stacked_length width (r ∷ rs) fits =
     let h = stacked_length width rs fits.1 in

@@ -10,3 +10,5 @@ pub mod PartCells
 pub mod Stacks
 pub mod CellForms
 pub mod Written
+pub mod SetTexts
+pub mod PatternTexts
