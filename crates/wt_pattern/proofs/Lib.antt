@@ -11,3 +11,6 @@ pub mod Stacks
 pub mod CellForms
 pub mod FaultLaws
 pub mod PeriodLaws
+pub mod Written
+pub mod SetTexts
+pub mod PatternTexts
