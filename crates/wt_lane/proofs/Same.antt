@@ -1,7 +1,6 @@
 -- Lists that agree lane by lane, and the first place where two differ behind a part that agrees.
-use Rattle.std.proofs.Common.{arith, ◌≡◌, ◌≢◌, ℕ, zero, suc, ◌+◌, ◌*◌, ◌≤◌, ◌<◌, List, [], ◌∷◌, take, drop, length, ap, sym, ◌∙◌, refl, Bool, true, false, not, nat_eq, cond, Option, add-zero, eq-eqb}
+use Rattle.std.proofs.Common.{arith, ◌≡◌, ℕ, zero, suc, ◌+◌, ◌≤◌, List, [], ◌∷◌, take, drop, length, ap, ◌∙◌, refl, Bool, true, not, nat_eq, add-zero, eq-eqb}
 use Rattle.std.proofs.lemmas.Bool.Decides.{nat_tests}
-use Rattle.std.proofs.lemmas.Simd.{length-zip2, mask_l-mod}
 use lib.Lanes.{mask_l, zip2}
 use Rattle.wt_lane.specs.Differs.{first_place_apart}
 

@@ -3,42 +3,100 @@ ghost use Rattle.std.specs.Prelude.{◌≡◌};
 ghost use Rattle.wt_line.specs.declared.faults.LineFault.TheVariants.{Past, OutOfMemory as LineNoMemory};
 ghost use Rattle.wt_line.specs.declared.faults.TextFault.TheVariants.{OutOfMemory as NoMemory};
 ghost use Rattle.wt_line.specs.Faults.{at_line};
+ghost use Rattle.wt_line.specs.Limits.{limit_word};
 
 use std::alloc::{AllocError, AllocFailed};
 
-/// The limits, by the words that name them.
+/// The limits, by the words that name them in a refusal.
 #[derive(Clone, Copy, PartialEq, Eq)]
 pub enum What {
+    /// The steps of a chain, or the levels of a search.
     Steps,
+    /// A radius.
     Radius,
+    /// The tiles of a set, images or labels.
     Tiles,
+    /// The pairs of a list.
     Pairs,
+    /// The nodes of all trees of a text.
     Nodes,
+    /// The depth of a tree.
     Depth,
+    /// The expansion of a loop.
     Expansion,
+    /// Any other number.
     Number,
+    /// The width of a pattern.
     Width,
+    /// The height of a pattern.
     Height,
+    /// A power of seeds.
     Power,
+    /// The turns of a census.
     Turns,
+    /// The regions of a partition.
     Regions,
+    /// The half-planes of a region.
     Planes,
+    /// A golden number.
     Golden,
+    /// The rows of a strip.
     Rows,
 }
 
-/// A line that has no right form, or one that passes a limit.
+impl What {
+    /// The word of the limit, as a refusal prints it.
+    pub fn as_str(self) -> &'static str
+        ensures { result.now ≡ limit_word self }
+    {
+        match self {
+            What::Steps => "steps",
+            What::Radius => "radius",
+            What::Tiles => "tiles",
+            What::Pairs => "pairs",
+            What::Nodes => "nodes",
+            What::Depth => "depth",
+            What::Expansion => "expansion",
+            What::Number => "number",
+            What::Width => "width",
+            What::Height => "height",
+            What::Power => "power",
+            What::Turns => "turns",
+            What::Regions => "regions",
+            What::Planes => "planes",
+            What::Golden => "golden",
+            What::Rows => "rows",
+        }
+    }
+}
+
+/// What is wrong with a line, whatever its number.
 #[derive(Clone, Copy, PartialEq, Eq)]
 pub enum LineFault {
+    /// It has no right form.
     Wrong,
+    /// It has a right form, and this is the first limit that it passes, from left to right.
     Past(What),
+    /// Want of memory.
     OutOfMemory,
 }
 
+/// What is wrong with a text: its first line that has no right form or passes a limit.
 #[derive(Clone, Copy, PartialEq, Eq)]
 pub enum TextFault {
-    Syntax { line: usize },
-    Limit { what: What, line: usize },
+    /// The line of this number is no right next line.
+    Syntax {
+        /// The number of the line, counted from 1.
+        line: usize,
+    },
+    /// The line of this number is right, but a quantity of it passes its limit.
+    Limit {
+        /// The limit that is passed first.
+        what: What,
+        /// The number of the line, counted from 1.
+        line: usize,
+    },
+    /// Want of memory.
     OutOfMemory,
 }
 

@@ -1,9 +1,6 @@
 -- Rows of numbers in lines, both ways.
-use Rattle.std.proofs.Common.{rules, arith, ◌≡◌, ℕ, zero, suc, ◌+◌, ◌*◌, ◌≤◌, ◌<◌, List, [], ◌∷◌, ◌++◌, length, map, Option, Some, Result, Ok, Err, refl, sym, ap, ◌∙◌, subst, length-append, eq-eqb, Bool, true, false, nat_eq, nat_lt, None}
+use Rattle.std.proofs.Common.{rules, arith, ◌≡◌, ℕ, zero, suc, ◌+◌, ◌*◌, ◌≤◌, ◌<◌, List, [], ◌∷◌, ◌++◌, length, map, Option, Some, Result, Ok, Err, refl, sym, ap, ◌∙◌, subst, length-append}
 use Rattle.std.specs.Fmt.{decimal}
-use Rattle.std.proofs.lemmas.Bool.Decides.{nat_tests}
-use Rattle.wt_pattern.specs.declared.fault.ShapeFault.{ShapeFault}
-use Rattle.wt_pattern.specs.Shape.{shape_fault}
 use Rattle.wt_line.specs.declared.faults.What.{What}
 use Rattle.wt_line.specs.declared.faults.What.TheVariants.{Number}
 use Rattle.wt_text.specs.Lines.{Line}
@@ -62,7 +59,7 @@ cells_line width le = fit_line (cells_some width le) (cells_format width)
 pub rows_law : (width height : ℕ) → 1 ≤ width → IsPart (cells_rows width height) (flat (line_spelling cells_spelling)) (λ rows. (length rows ≡ height) × FitInTurn (λ s. CellsFit width) no_state 0 rows)
 rows_law width height le = many_part no_state (λ s. line_part (cells_line width le)) 0 height
 
-stacked_length : (width : ℕ) (rows : List (List ℕ)) → FitInTurn (λ s. CellsFit width) no_state 0 rows → length (from_bottom rows) ≡ width * length rows
+pub stacked_length : (width : ℕ) (rows : List (List ℕ)) → FitInTurn (λ s. CellsFit width) no_state 0 rows → length (from_bottom rows) ≡ width * length rows
 stacked_length width [] fits = omega arith
 stacked_length width (r ∷ rs) fits =
     let h = stacked_length width rs fits.1 in
@@ -75,15 +72,3 @@ pub stack_size : (width height : ℕ) (p : ℕ × List Line) (rows : List (List 
 stack_size width height p rows q le e =
     let f = (rows_law width height le).found p rows q e in
     stacked_length width rows f.1.1 ∙ ap (λ (n : ℕ). width * n) f.1.0
-
--- so many cells have their shape
-pub right_shape : (w h n : ℕ) (e : ShapeFault) → (1 ≤ w) × (w ≤ 4096) → (1 ≤ h) × (h ≤ 4096) → n ≡ w * h → shape_fault w h n ≡ Some e → ⊥
-right_shape w h n e wide high size fault =
-    let w0 : nat_eq w 0 ≡ false = grind (arith, nat_tests, wide.0) in
-    let h0 : nat_eq h 0 ≡ false = grind (arith, nat_tests, high.0) in
-    let w1 : nat_lt 4096 w ≡ false = grind (arith, nat_tests, wide.1) in
-    let h1 : nat_lt 4096 h ≡ false = grind (arith, nat_tests, high.1) in
-    let same : nat_eq n (w * h) ≡ true = eq-eqb n (w * h) size in
-    let none : shape_fault w h n ≡ None = rw (w0, h0, w1, h1, same) refl in
-    let bad : None ≡ Some e = sym none ∙ fault in
-    absurd cc

@@ -9,3 +9,8 @@ pub mod PeriodFaults
 pub mod PartCells
 pub mod Stacks
 pub mod CellForms
+pub mod FaultLaws
+pub mod PeriodLaws
+pub mod Written
+pub mod SetTexts
+pub mod PatternTexts

@@ -92,7 +92,7 @@ none_in right up g y e = sym (all_none (period_fault_at right up g y) 0 g.width 
     nowhere None x = refl
     nowhere (Some k) x = refl
 
-shifted_inside : (s : Shift) (n x k : ℕ) → x < n → shifted s n x ≡ Some k → k < n
+pub shifted_inside : (s : Shift) (n x k : ℕ) → x < n → shifted s n x ≡ Some k → k < n
 shifted_inside (Forward d) n x k lt e = by (nat_lt (x + d) n) refl
   where
     by : (b : Bool) → nat_lt (x + d) n ≡ b → k < n

@@ -8,3 +8,5 @@ pub mod TileRows
 pub mod Numbered
 pub mod PatternRows
 pub mod Cells
+pub mod Writing
+pub mod SetTexts

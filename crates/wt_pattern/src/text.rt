@@ -45,10 +45,7 @@ fn pattern_rows_at(
 {
     let (rows, place) = rows_at(alloc, width, height, place)?;
     let cells = stacked(alloc, rows)?;
-    match Pattern::new(width, height, cells) {
-        Ok(pattern) => Ok((pattern, place)),
-        Err(_) => unreachable!(),
-    }
+    Ok((Pattern::of(width, height, cells), place))
 }
 
 /// A pattern of this width and height, from a text that is its rows and no more.

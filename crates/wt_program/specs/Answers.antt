@@ -1,5 +1,5 @@
 -- What the program answers, where no device fails and memory suffices.
-use Rattle.std.specs.Prelude.{ℕ, nat_lt, if◌then◌else◌, List, length, codes, Option, None, Some}
+use Rattle.std.specs.Prelude.{◌≡◌, ℕ, Bool, true, false, nat_lt, List, length, codes, Option, None, Some}
 use Rattle.wt_program.specs.declared.reply.Reply.{Reply}
 use Rattle.wt_program.specs.declared.reply.Reply.TheVariants.{Refused, Limit}
 use Rattle.wt_program.specs.Commands.{Command, check, desub, command}
@@ -10,18 +10,20 @@ unfoldable pub check_reply : List ℕ → Reply
 check_reply bytes = Refused (codes "refused unbuilt\n")
 
 -- the reply of a command to its whole input
-abbrev pub reply_to : Command → List ℕ → Reply
-reply_to check bytes = check_reply bytes
-reply_to (desub step) bytes = check_reply bytes
+abbrev pub IsReply : Command → List ℕ → Reply → Type 0
+IsReply check bytes reply = reply ≡ check_reply bytes
+IsReply (desub step) bytes reply = reply ≡ check_reply bytes
 
--- an input of more than 16 MiB is refused before all else
-abbrev pub reply_within : Command → List ℕ → Reply
-reply_within c bytes = if nat_lt 16777216 (length bytes) then Limit (codes "limit input\n") else reply_to c bytes
+-- an input that is too long is refused before all else
+abbrev pub IsAnswerTo : Bool → Command → List ℕ → Answer → Type 0
+IsAnswerTo true c bytes answer = answer ≡ said (Limit (codes "limit input\n"))
+IsAnswerTo false c bytes answer = (reply : Reply) × IsReply c bytes reply × (answer ≡ said reply)
 
-abbrev pub answer_by : Option Command → List ℕ → Answer
-answer_by None bytes = usage
-answer_by (Some c) bytes = said (reply_within c bytes)
+-- at most 16 MiB are read
+abbrev pub IsAnswerBy : Option Command → List ℕ → Answer → Type 0
+IsAnswerBy None bytes answer = answer ≡ usage
+IsAnswerBy (Some c) bytes answer = IsAnswerTo (nat_lt 16777216 (length bytes)) c bytes answer
 
 -- the answer to some words and the bytes that come in
-abbrev pub answer : List (List ℕ) → List ℕ → Answer
-answer words bytes = answer_by (command words) bytes
+abbrev pub IsAnswer : List (List ℕ) → List ℕ → Answer → Type 0
+IsAnswer words bytes answer = IsAnswerBy (command words) bytes answer

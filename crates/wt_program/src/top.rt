@@ -4,7 +4,7 @@ ghost use Rattle.std.specs.Io.KnownBytes.{Appends};
 ghost use Rattle.wt_io.specs.Causes.{Rose};
 ghost use Rattle.wt_io.specs.Took.{TookUpTo};
 ghost use Rattle.wt_program.specs.Commands.{command, named, word_bytes};
-ghost use Rattle.wt_program.specs.Answers.{reply_to as command_reply, answer};
+ghost use Rattle.wt_program.specs.Answers.{IsReply};
 ghost use Rattle.wt_program.specs.Outcomes.{IsAnswered, IsCutOff};
 
 use crate::answer::check_answer;
@@ -19,7 +19,7 @@ const MAX_INPUT: usize = 16_777_216;
 
 /// The reply of a command to its whole input.
 fn reply_to(alloc: Global, command: Command<'_>, bytes: &[u8]) -> Result<Reply, AllocError>
-    ensures { IfOk result (λ reply. reply ≡ command_reply (named command.entry) bytes.now) }
+    ensures { IfOk result (IsReply (named command.entry) bytes.now) }
 {
     match command {
         Command::Check => check_answer(alloc, bytes),
@@ -42,13 +42,13 @@ fn finish<K: Sink>(sink: &mut K, text: &[u8], status: u8) -> u8
 
 /// All that the program does: it answers the command that the words are to the bytes of the source, writes its answer to the sink, and answers the status.
 pub fn wang<S: Source, K: Sink>(alloc: Global, words: &[String], src: &mut S, sink: &mut K) -> u8
-    ensures answered { IfSome (S.left src.old) (λ bytes. IsAnswered (answer (word_bytes words.now) bytes) (K.held sink.old) (K.held sink.new) result) }
+    ensures answered { IfSome (S.left src.old) (λ bytes. IsAnswered (word_bytes words.now) bytes (K.held sink.old) (K.held sink.new) result) }
     ensures usage { command (word_bytes words.now) ≡ None → ((result ≡ 2) ⊎ (result ≡ 4)) × (src.new ≡ src.old) }
     ensures usage_only { result ≡ 2 → (command (word_bytes words.now) ≡ None) × Appends (K.held sink.old) (K.held sink.new) (codes "usage\n") }
     ensures read_fault { result ≡ 3 → Rose (S.faults src.old) (S.faults src.new) × Appends (K.held sink.old) (K.held sink.new) (codes "read fault\n") }
     ensures read_within { result ≡ 3 → TookUpTo (S.left src.old) (S.left src.new) 16777216 }
     ensures write_fault { result ≡ 4 → Rose (K.faults sink.old) (K.faults sink.new) }
-    ensures cut_off { result ≡ 4 → IfSome (S.left src.old) (λ bytes. IsCutOff (answer (word_bytes words.now) bytes) (Rose (S.faults src.old) (S.faults src.new)) (K.held sink.old) (K.held sink.new)) }
+    ensures cut_off { result ≡ 4 → IfSome (S.left src.old) (λ bytes. IsCutOff (word_bytes words.now) bytes (Rose (S.faults src.old) (S.faults src.new)) (K.held sink.old) (K.held sink.new)) }
     ensures memory { result ≡ 7 → Appends (K.held sink.old) (K.held sink.new) (codes "out of memory\n") }
 {
     let Some(command) = command_of(words) else {

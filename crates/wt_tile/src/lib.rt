@@ -7,6 +7,8 @@ mod fusion;
 mod matching;
 mod name;
 mod set;
+#[cfg(test)]
+mod tests;
 mod tile;
 
 pub use checks::{colour_fault, place_of};

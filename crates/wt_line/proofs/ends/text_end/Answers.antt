@@ -1,4 +1,4 @@
-use Rattle.std.proofs.Common.{arith, rules}
+use Rattle.std.proofs.Common.{rules}
 use Rattle.wt_line.proofs.Ended.{some_lines, no_lines}
 use Rattle.wt_line.proofs.ends.text_end.Goals as goal
 

@@ -1,6 +1,6 @@
 use Rattle.std.proofs.Common.{length, drop, ◌+◌, ◌-◌, ◌≡◌, ◌≤◌}
 use Rattle.wt_lane.specs.Differs.{first_place_apart}
-use Rattle.wt_lane.proofs.first_difference.Given as goal
+use Rattle.wt_lane.proofs.rows.first_difference.Given as goal
 
 abbrev pub invariant-loop-at : goal.invariant-loop-at
 invariant-loop-at l = record {

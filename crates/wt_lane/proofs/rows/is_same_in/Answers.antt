@@ -1,10 +1,10 @@
-use Rattle.std.proofs.Common.{arith, ◌≡◌, ℕ, ◌%◌, ◌^◌, ◌≤◌, length, length-take, length-drop, take, drop, ap, sym, ◌∙◌, nat_eq, true, eqb, w16, subst, List, Bool, false, refl}
+use Rattle.std.proofs.Common.{arith, ◌≡◌, ℕ, ◌%◌, ◌^◌, length, length-take, length-drop, drop, sym, ◌∙◌, nat_eq, true, w16, List, Bool, false, refl}
 use Rattle.std.specs.Bool.{OnTrue}
 use Rattle.std.proofs.lemmas.Bool.Decides.{nat_tests}
 use lib.Lanes.{mask_l, zip2, chunk}
 use Rattle.std.proofs.lemmas.Simd.{tops_compared, mask_l-mod, length-zip2}
 use Rattle.wt_lane.proofs.Same.{same_of_mask, differs}
-use Rattle.wt_lane.proofs.is_same_in.Goals as goal
+use Rattle.wt_lane.proofs.rows.is_same_in.Goals as goal
 
 on_true : (b : Bool) (P : Type 0) → (b ≡ true → P) → OnTrue b P
 on_true true P f = f refl

@@ -1,0 +1,23 @@
+-- The words of the limits.
+use Rattle.std.specs.Prelude.{ℕ, List, codes}
+use Rattle.wt_line.specs.declared.faults.What.{What}
+use Rattle.wt_line.specs.declared.faults.What.TheVariants.{Steps, Radius, Tiles, Pairs, Nodes, Depth, Expansion, Number, Width, Height, Power, Turns, Regions, Planes, Golden, Rows}
+
+-- the word of a limit, as a refusal prints it
+abbrev pub limit_word : What → List ℕ
+limit_word Steps = codes "steps"
+limit_word Radius = codes "radius"
+limit_word Tiles = codes "tiles"
+limit_word Pairs = codes "pairs"
+limit_word Nodes = codes "nodes"
+limit_word Depth = codes "depth"
+limit_word Expansion = codes "expansion"
+limit_word Number = codes "number"
+limit_word Width = codes "width"
+limit_word Height = codes "height"
+limit_word Power = codes "power"
+limit_word Turns = codes "turns"
+limit_word Regions = codes "regions"
+limit_word Planes = codes "planes"
+limit_word Golden = codes "golden"
+limit_word Rows = codes "rows"

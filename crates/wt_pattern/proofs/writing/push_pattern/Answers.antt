@@ -1,0 +1,11 @@
+use Rattle.std.proofs.Common.{rules, arith, ◌≡◌, ◌-◌, ◌++◌, suc}
+use Rattle.wt_text.specs.Lines.{bytes_of}
+use Rattle.wt_pattern.specs.PatternRows.{pattern_lines}
+use Rattle.wt_pattern.proofs.Written.{row_written}
+use Rattle.wt_pattern.proofs.writing.push_pattern.Goals as goal
+
+pub loop-y-preserved : goal.loop-y-preserved
+loop-y-preserved c = record {
+  so_far = row_written c.args.p.now c.loop-y.y (c.loop-y.y - 1) c.loop-y.out.items c.push_row.new.out.items (c.args.out.now.items ++ bytes_of (pattern_lines c.args.p.now)) (omega (arith, c.loop-y-test.true)) (rw c.row.ensures.cells at c.in_ok-push_row.ensures) c.loop-y.invariant.so_far;
+  within = omega (arith, c.loop-y.invariant.within);
+}

@@ -1,0 +1,86 @@
+// Tile sets and patterns, written as text.
+ghost use Rattle.std.specs.Prelude.{◌≡◌, ◌++◌, OnOk, IfOk};
+ghost use Rattle.wt_names.specs.Numbering.{name_at};
+ghost use Rattle.wt_text.specs.Lines.{bytes_of};
+ghost use Rattle.wt_pattern.specs.TileRows.{rows_spelling};
+ghost use Rattle.wt_pattern.specs.PatternRows.{pattern_lines};
+ghost use Rattle.wt_pattern.specs.Writing.{tile_bytes};
+
+use crate::Pattern;
+use std::alloc::{AllocError, Global};
+use wt_tile::{Name, SetRef, Tile, TileList};
+use wt_write::{end_line, push_row};
+
+/// The name of a colour; no bytes where it has none.
+fn name_of(names: &[Name], number: u16) -> &[u8]
+    ensures { result.now ≡ name_at names.now number }
+{
+    let number = usize::from(number);
+    if number < names.len() {
+        names[number].bytes()
+    } else {
+        b""
+    }
+}
+
+/// Appends the row of a tile's four names.
+fn push_tile(
+    out: &mut Vec<u8>,
+    names1: &[Name],
+    names2: &[Name],
+    tile: Tile,
+) -> Result<(), AllocError>
+    ensures { OnOk result (out.new.items ≡ out.old.items ++ tile_bytes names1.now names2.now tile) }
+{
+    out.extend_from_slice(name_of(names1, tile.east))?;
+    out.push(b' ')?;
+    out.extend_from_slice(name_of(names2, tile.north))?;
+    out.push(b' ')?;
+    out.extend_from_slice(name_of(names1, tile.west))?;
+    out.push(b' ')?;
+    out.extend_from_slice(name_of(names2, tile.south))?;
+    end_line(out)?;
+    Ok(())
+}
+
+/// Appends the rows of a list of tiles.
+pub fn push_tiles(out: &mut Vec<u8>, list: &TileList) -> Result<(), AllocError>
+    ensures { OnOk result (out.new.items ≡ out.old.items ++ bytes_of (rows_spelling list.now)) }
+{
+    let names1 = list.names1.as_slice();
+    let names2 = list.names2.as_slice();
+    for tile in list.tiles.as_slice() {
+        push_tile(out, names1, names2, *tile)?;
+    }
+    Ok(())
+}
+
+/// The text of a tile set: a row of four names for each tile, the right, the top, the left and the bottom one.
+pub fn write_set(alloc: Global, set: SetRef<'_>) -> Result<Vec<u8>, AllocError>
+    ensures { IfOk result (λ text. text.items ≡ bytes_of (rows_spelling set.entry.list.now)) }
+{
+    let mut text = Vec::new(alloc);
+    push_tiles(&mut text, set.list)?;
+    Ok(text)
+}
+
+/// Appends the rows of a pattern, the top one first.
+pub fn push_pattern(out: &mut Vec<u8>, p: &Pattern) -> Result<(), AllocError>
+    ensures { OnOk result (out.new.items ≡ out.old.items ++ bytes_of (pattern_lines p.now)) }
+{
+    let mut y = p.height();
+    while y > 0 {
+        y -= 1;
+        push_row(out, p.row(y))?;
+    }
+    Ok(())
+}
+
+/// The text of a pattern: its rows, the top one first.
+pub fn pattern_text(alloc: Global, p: &Pattern) -> Result<Vec<u8>, AllocError>
+    ensures { IfOk result (λ text. text.items ≡ bytes_of (pattern_lines p.now)) }
+{
+    let mut text = Vec::new(alloc);
+    push_pattern(&mut text, p)?;
+    Ok(text)
+}

@@ -1,0 +1,42 @@
+use Rattle.std.proofs.Common.{arith, ◌≡◌, ◌≤◌, length, refl}
+use Rattle.std.specs.Prelude.{codes}
+use Rattle.wt_io.specs.Causes.{Rose}
+use Rattle.wt_program.specs.declared.reply.Reply.TheVariants.{Limit}
+use Rattle.wt_program.specs.Replies.{usage, said}
+use Rattle.wt_program.specs.Commands.{named, word_bytes}
+use Rattle.wt_program.proofs.Told.{no_command, whole_input, long_input, told, told_as, cut_off}
+use Rattle.wt_program.proofs.top.wang.Goals as goal
+
+pub returns-in_default-clause-answered : goal.returns-in_default-clause-answered
+returns-in_default-clause-answered g c =
+    told (word_bytes c.args.words.now) (g.S.Source.left c.args.src.now) usage (g.K.Sink.held c.args.sink.now) (g.K.Sink.held c.finish.new.sink) c.finish.result (no_command (word_bytes c.args.words.now) (g.S.Source.left c.args.src.now) c.in_default.ensures) c.finish.ensures.done
+
+pub returns-in_default-clause-cut_off : goal.returns-in_default-clause-cut_off
+returns-in_default-clause-cut_off g c e =
+    cut_off (word_bytes c.args.words.now) (g.S.Source.left c.args.src.now) usage (Rose (g.S.Source.faults c.args.src.now) (g.S.Source.faults c.args.src.now)) (g.K.Sink.held c.args.sink.now) (g.K.Sink.held c.finish.new.sink) usage.text refl (no_command (word_bytes c.args.words.now) (g.S.Source.left c.args.src.now) c.in_default.ensures) (c.finish.ensures.prefix e)
+
+pub returns-in-Ok-reply_to-clause-answered : goal.returns-in-Ok-reply_to-clause-answered
+returns-in-Ok-reply_to-clause-answered g c =
+    let reply = c.in-Ok-reply_to.reply in
+    let few : length c.in-Ok.bytes.items ≤ 16777216 = omega (arith, c.in-Ok.bytes.ok.0, c.in-Ok.ensures.within) in
+    let is = whole_input (word_bytes c.args.words.now) (g.S.Source.left c.args.src.now) (g.S.Source.left c.read_all.new.src) c.in-Ok.bytes.items (named c.in-Some.command) reply c.in-Some.ensures c.in-Ok.ensures.bytes c.in-Ok.ensures.end few (rw c.deref.ensures.value at c.in-Ok-reply_to.ensures) in
+    told_as (word_bytes c.args.words.now) (g.S.Source.left c.args.src.now) (said reply) (g.K.Sink.held c.args.sink.now) (g.K.Sink.held c.finish-in-Ok-reply_to.new.sink) c.finish-in-Ok-reply_to.result c.status.result c.text.result.now c.status.ensures.value c.text.ensures is c.finish-in-Ok-reply_to.ensures.done
+
+pub returns-in-Ok-reply_to-clause-cut_off : goal.returns-in-Ok-reply_to-clause-cut_off
+returns-in-Ok-reply_to-clause-cut_off g c e =
+    let reply = c.in-Ok-reply_to.reply in
+    let few : length c.in-Ok.bytes.items ≤ 16777216 = omega (arith, c.in-Ok.bytes.ok.0, c.in-Ok.ensures.within) in
+    let is = whole_input (word_bytes c.args.words.now) (g.S.Source.left c.args.src.now) (g.S.Source.left c.read_all.new.src) c.in-Ok.bytes.items (named c.in-Some.command) reply c.in-Some.ensures c.in-Ok.ensures.bytes c.in-Ok.ensures.end few (rw c.deref.ensures.value at c.in-Ok-reply_to.ensures) in
+    cut_off (word_bytes c.args.words.now) (g.S.Source.left c.args.src.now) (said reply) (Rose (g.S.Source.faults c.args.src.now) (g.S.Source.faults c.read_all.new.src)) (g.K.Sink.held c.args.sink.now) (g.K.Sink.held c.finish-in-Ok-reply_to.new.sink) c.text.result.now c.text.ensures is (c.finish-in-Ok-reply_to.ensures.prefix e)
+
+pub returns-in-Err-TooLong-clause-answered : goal.returns-in-Err-TooLong-clause-answered
+returns-in-Err-TooLong-clause-answered g c =
+    let limit = said (Limit (codes "limit input\n")) in
+    let is = long_input (word_bytes c.args.words.now) (g.S.Source.left c.args.src.now) (g.S.Source.left c.read_all.new.src) (named c.in-Some.command) c.in-Some.ensures (c.in-Err-TooLong.ensures.too_long (cc)) in
+    told (word_bytes c.args.words.now) (g.S.Source.left c.args.src.now) limit (g.K.Sink.held c.args.sink.now) (g.K.Sink.held c.finish-in-Err-TooLong.new.sink) c.finish-in-Err-TooLong.result is c.finish-in-Err-TooLong.ensures.done
+
+pub returns-in-Err-TooLong-clause-cut_off : goal.returns-in-Err-TooLong-clause-cut_off
+returns-in-Err-TooLong-clause-cut_off g c e =
+    let limit = said (Limit (codes "limit input\n")) in
+    let is = long_input (word_bytes c.args.words.now) (g.S.Source.left c.args.src.now) (g.S.Source.left c.read_all.new.src) (named c.in-Some.command) c.in-Some.ensures (c.in-Err-TooLong.ensures.too_long (cc)) in
+    cut_off (word_bytes c.args.words.now) (g.S.Source.left c.args.src.now) limit (Rose (g.S.Source.faults c.args.src.now) (g.S.Source.faults c.read_all.new.src)) (g.K.Sink.held c.args.sink.now) (g.K.Sink.held c.finish-in-Err-TooLong.new.sink) limit.text refl is (c.finish-in-Err-TooLong.ensures.prefix e)
