@@ -8,12 +8,12 @@ use Rattle.wt_tile.specs.declared.tile.Axis.TheVariants.{One, Two}
 use Rattle.wt_tile.specs.Matching.{same_axis}
 use Rattle.wt_grid.specs.First.{or_else}
 use Rattle.wt_grid.specs.Order.{has}
-use Rattle.wt_pattern.specs.Windows.{IsEmptyWindow}
+use Rattle.wt_pattern.specs.Windows.{window_size}
 use Rattle.wt_refute.specs.declared.tree.Refuted.{Refuted}
 use Rattle.wt_refute.specs.declared.tree.Tree.{Tree}
 use Rattle.wt_refute.specs.Refutation.{Refutation, Branches, branch, cite, no_more, more, node_count, tiles_in, held}
 use Rattle.wt_refute.specs.View.{refutation}
-use Rattle.wt_refute.specs.Placed.{Placed, place, window_shape, window_of, tile_window, tile_in, is_free, right_of, above, fitting}
+use Rattle.wt_refute.specs.Placed.{Placed, place, window_of, tile_window, tile_in, is_free, right_of, above, fitting}
 
 -- the window of a radius, laid round a cell and the next one along the axis, lies inside
 abbrev pub lies_inside : ℕ → ℕ → ℕ → Axis → ℕ → Bool
@@ -21,7 +21,7 @@ lies_inside width height cell axis radius =
     let x = cell % width in
     let y = cell / width in
     nat_le radius x && nat_le radius y
-    && nat_le (x - radius + (window_shape axis radius).0) width && nat_le (y - radius + (window_shape axis radius).1) height
+    && nat_le (x - radius + (window_size axis radius).0) width && nat_le (y - radius + (window_size axis radius).1) height
 
 -- the entry is of the tiles a, b along this axis, of a lower radius, and its window at the cell lies inside
 abbrev pub serves : ℕ → ℕ → ℕ → ℕ → Axis → ℕ → ℕ → Refuted → Bool

@@ -3,7 +3,7 @@ ghost use Rattle.std.specs.Prelude.{◌≡◌, ℕ, ◌+◌, ◌-◌, ◌*◌, �
 ghost use Rattle.std.specs.Option.{option_map};
 ghost use Rattle.wt_refute.specs.Refutation.{node_count, tiles_in, held};
 ghost use Rattle.wt_refute.specs.View.{refutation, children_view};
-ghost use Rattle.wt_refute.specs.Placed.{placed, window_shape, window_of, tile_window, next_cell as cell_beside};
+ghost use Rattle.wt_refute.specs.Placed.{placed, window_of, tile_window, next_cell as cell_beside};
 ghost use Rattle.wt_refute.specs.Entries.{ascends};
 ghost use Rattle.wt_refute.specs.Refutes.{lies_inside as is_inside, next_placed as the_next, is_cited as cited, is_branching as branching, first_wrong, tree_fault, tile_tree_fault};
 
@@ -160,7 +160,7 @@ pub fn place_pair(
     shape: (usize, usize),
     cells: &mut [Option<u16>],
 )
-    requires shape { shape ≡ window_shape axis radius }
+    requires shape { shape ≡ window_size axis radius }
     requires free { cells.old ≡ replicate (shape.0 * shape.1) None }
     ensures { placed shape cells.new ≡ window_of axis a b radius }
 {

@@ -1,6 +1,6 @@
 // Windows with some of their tiles placed.
 ghost use Rattle.std.specs.Prelude.{◌≡◌, ◌+◌, ℕ, ◌-◌, ◌^◌, ◌<◌, ◌≤◌, [], ◌∷◌, length, MatchOption, None};
-ghost use Rattle.wt_refute.specs.Placed.{placed, window_shape as the_shape, tile_in as the_tile_in, is_free as the_is_free, right_of as the_right, above as the_above, left_of as the_left, below as the_below, may_join as may_stand, fits as it_fits, passing};
+ghost use Rattle.wt_refute.specs.Placed.{placed, tile_in as the_tile_in, is_free as the_is_free, right_of as the_right, above as the_above, left_of as the_left, below as the_below, may_join as may_stand, fits as it_fits, passing};
 
 use wt_tile::{Axis, Tile, is_match};
 
