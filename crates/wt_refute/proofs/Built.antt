@@ -363,11 +363,11 @@ window_agrees ts One a b radius la lb m = record {
     ]
   ];
   up = λ d s t es et. elim (got_window One a b radius d s es) [
-    | inl x ↦ elim (got_window One a b radius (d + (2 * radius + 2)) t et) [
+    | inl x ↦ elim (got_window One a b radius (d + (radius + radius + 2)) t et) [
       | inl y ↦ absurd (omega (arith, x.0, y.0))
       | inr y ↦ absurd (omega (arith, x.0, y.0))
     ]
-    | inr x ↦ elim (got_window One a b radius (d + (2 * radius + 2)) t et) [
+    | inr x ↦ elim (got_window One a b radius (d + (radius + radius + 2)) t et) [
       | inl y ↦ absurd (omega (arith, x.0, y.0))
       | inr y ↦ absurd (omega (arith, x.0, y.0))
     ]
@@ -389,11 +389,11 @@ window_agrees ts Two a b radius la lb m = record {
     ]
   ];
   up = λ d s t es et. elim (got_window Two a b radius d s es) [
-    | inl x ↦ elim (got_window Two a b radius (d + (2 * radius + 1)) t et) [
+    | inl x ↦ elim (got_window Two a b radius (d + (radius + radius + 1)) t et) [
       | inl y ↦ absurd (omega (arith, x.0, y.0))
       | inr y ↦ absurd (omega (arith, x.0, y.0))
     ]
-    | inr x ↦ elim (got_window Two a b radius (d + (2 * radius + 1)) t et) [
+    | inr x ↦ elim (got_window Two a b radius (d + (radius + radius + 1)) t et) [
       | inl y ↦ subst (λ (k : ℕ). matches ts Two k t ≡ true) x.1 (subst (λ (k : ℕ). matches ts Two a k ≡ true) y.1 m)
       | inr y ↦ absurd (omega (arith, x.0, y.0))
     ]

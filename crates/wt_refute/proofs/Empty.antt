@@ -288,7 +288,7 @@ middle_place axis radius =
 
 pub next_place : (axis : Axis) (radius : ℕ) (f : ℕ → ℕ → ℕ) → let w = (window_size axis radius).0 in let n = next_cell axis w (radius * w + radius) in f (n % w) (n / w) ≡ beside axis f radius radius
 next_place One radius f =
-    let w = 2 * radius + 2 in
+    let w = radius + radius + 2 in
     let m = middle_place One radius in
     let small : (radius * w + radius) % w + 1 < w = rw m.0 (omega arith) in
     let at = at_right w (radius * w + radius) small in
@@ -296,7 +296,7 @@ next_place One radius f =
     let ey : (radius * w + radius + 1) / w ≡ radius = at.1 ∙ m.1 in
     rw ex (rw ey)
 next_place Two radius f =
-    let w = 2 * radius + 1 in
+    let w = radius + radius + 1 in
     let m = middle_place Two radius in
     let at = at_above w (radius * w + radius) (omega arith) in
     let ex : (radius * w + radius + w) % w ≡ radius = at.0 ∙ m.0 in
@@ -329,7 +329,7 @@ refuted_empty ts axis a b radius known tree empty r f i =
 
 tile_stands : (ts : List Tile) (tile radius : ℕ) (f : ℕ → ℕ → ℕ) → f radius radius ≡ tile → Stands f (tile_window tile radius)
 tile_stands ts tile radius f e =
-    let w = 2 * radius + 1 in
+    let w = radius + radius + 1 in
     let free = replicate {A = Option ℕ} (w * w) None in
     let m = radius * w + radius in
     let size : length free ≡ w * w = length-replicate {A = Option ℕ} (w * w) None in
@@ -343,5 +343,5 @@ tile_stands ts tile radius f e =
     }
 
 pub tile_excluded : (ts : List Tile) (tile radius : ℕ) (tree : Refutation) → Refutes ts radius [] (tile_window tile radius) tree
-    → (f : ℕ → ℕ → ℕ) → IsFilling ts (2 * radius + 1) (2 * radius + 1) f → f radius radius ≡ tile → ⊥
+    → (f : ℕ → ℕ → ℕ) → IsFilling ts (radius + radius + 1) (radius + radius + 1) f → f radius radius ≡ tile → ⊥
 tile_excluded ts tile radius tree r f v e = none_stands ts radius [] tt f tree (tile_window tile radius) (tile_stands ts tile radius f e) v r

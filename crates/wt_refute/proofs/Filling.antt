@@ -58,12 +58,12 @@ cells_fill ts g w h b v lw lh = record {
 
 window_fills : (ts : List Tile) (axis : Axis) (a b r : ℕ) (g : Grid) → IsWindow (length ts) (matching ts) (grid_axis axis) a b r g → FillsWindow ts axis a b r (cell g)
 window_fills ts One a b r g w = record {
-  valid = cells_fill ts g (2 * r + 2) (2 * r + 1) w.tiles w.valid (omega (arith, w.long)) (omega (arith, w.wide));
+  valid = cells_fill ts g (r + r + 2) (r + r + 1) w.tiles w.valid (omega (arith, w.long)) (omega (arith, w.wide));
   first = w.first;
   second = let next : r + 1 ≡ suc r = omega arith in rw next w.second;
 }
 window_fills ts Two a b r g w = record {
-  valid = cells_fill ts g (2 * r + 1) (2 * r + 2) w.tiles w.valid (omega (arith, w.wide)) (omega (arith, w.long));
+  valid = cells_fill ts g (r + r + 1) (r + r + 2) w.tiles w.valid (omega (arith, w.wide)) (omega (arith, w.long));
   first = w.first;
   second = let next : r + 1 ≡ suc r = omega arith in rw next w.second;
 }
@@ -82,22 +82,22 @@ filling_valid ts w h f v two y x ly lx =
 fills_window : (ts : List Tile) (axis : Axis) (a b r : ℕ) (f : ℕ → ℕ → ℕ) → FillsWindow ts axis a b r f
     → IsWindow (length ts) (matching ts) (grid_axis axis) a b r (grid_of (window_size axis r).0 (window_size axis r).1 f)
 fills_window ts One a b r f i = record {
-  grid = grid_grid (2 * r + 2) (2 * r + 1) f (omega arith) (omega arith);
+  grid = grid_grid (r + r + 2) (r + r + 1) f (omega arith) (omega arith);
   long = omega arith;
   wide = omega arith;
-  tiles = filling_below ts (2 * r + 2) (2 * r + 1) f i.valid;
-  valid = filling_valid ts (2 * r + 2) (2 * r + 1) f i.valid;
-  first = cell_of (2 * r + 2) (2 * r + 1) r r f (omega arith) (omega arith) ∙ i.first;
-  second = let next : suc r ≡ r + 1 = omega arith in cell_of (2 * r + 2) (2 * r + 1) (suc r) r f (omega arith) (omega arith) ∙ rw next i.second;
+  tiles = filling_below ts (r + r + 2) (r + r + 1) f i.valid;
+  valid = filling_valid ts (r + r + 2) (r + r + 1) f i.valid;
+  first = cell_of (r + r + 2) (r + r + 1) r r f (omega arith) (omega arith) ∙ i.first;
+  second = let next : suc r ≡ r + 1 = omega arith in cell_of (r + r + 2) (r + r + 1) (suc r) r f (omega arith) (omega arith) ∙ rw next i.second;
 }
 fills_window ts Two a b r f i = record {
-  grid = grid_grid (2 * r + 1) (2 * r + 2) f (omega arith) (omega arith);
+  grid = grid_grid (r + r + 1) (r + r + 2) f (omega arith) (omega arith);
   long = omega arith;
   wide = omega arith;
-  tiles = filling_below ts (2 * r + 1) (2 * r + 2) f i.valid;
-  valid = filling_valid ts (2 * r + 1) (2 * r + 2) f i.valid;
-  first = cell_of (2 * r + 1) (2 * r + 2) r r f (omega arith) (omega arith) ∙ i.first;
-  second = let next : suc r ≡ r + 1 = omega arith in cell_of (2 * r + 1) (2 * r + 2) r (suc r) f (omega arith) (omega arith) ∙ rw next i.second;
+  tiles = filling_below ts (r + r + 1) (r + r + 2) f i.valid;
+  valid = filling_valid ts (r + r + 1) (r + r + 2) f i.valid;
+  first = cell_of (r + r + 1) (r + r + 2) r r f (omega arith) (omega arith) ∙ i.first;
+  second = let next : suc r ≡ r + 1 = omega arith in cell_of (r + r + 1) (r + r + 2) r (suc r) f (omega arith) (omega arith) ∙ rw next i.second;
 }
 
 -- A window is empty exactly where nothing fills it.

@@ -34,7 +34,7 @@ window_of axis a b radius =
 -- the square window of a tile, with the tile placed in its middle
 abbrev pub tile_window : ℕ → ℕ → Placed
 tile_window tile radius =
-    let side = 2 * radius + 1 in
+    let side = radius + radius + 1 in
     place (record { width = side; height = side; cells = replicate (side * side) None }) (radius * side + radius) tile
 
 -- the tile at a cell, where one is placed
