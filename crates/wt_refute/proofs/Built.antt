@@ -7,13 +7,14 @@ use Rattle.std.proofs.lemmas.List.{get_or-set_same, get_or-set_other, get_or_pas
 use Rattle.wt_tile.specs.declared.tile.Tile.{Tile}
 use Rattle.wt_tile.specs.declared.tile.Axis.{Axis}
 use Rattle.wt_tile.specs.declared.tile.Axis.TheVariants.{One, Two}
+use Rattle.wt_pattern.specs.Windows.{window_size}
 use Rattle.wt_refute.specs.declared.tree.Refuted.{Refuted}
 use Rattle.wt_refute.specs.Refutation.{Refutation, Branches, branch, tiles_in}
 use Rattle.std.specs.Option.{option_map}
 use Rattle.wt_tile.specs.Matching.{matches}
 use Rattle.wt_grid.specs.First.{or_else, first_from}
 use Rattle.wt_refute.proofs.Filling.{IsFilling, FillsWindow, IsUnfilled}
-use Rattle.wt_refute.specs.Placed.{Placed, window_shape, place, window_of, next_cell, tile_in, is_vacant, is_free, right_of, above, left_of, below, may_join, fits, passing, fitting}
+use Rattle.wt_refute.specs.Placed.{Placed, place, window_of, next_cell, tile_in, is_vacant, is_free, right_of, above, left_of, below, may_join, fits, passing, fitting}
 use Rattle.wt_refute.specs.Refutes.{is_cited, Refutes, EachRefutes}
 use Rattle.wt_refute.proofs.Empty.{Stands, at_right, all_four, middle_place, next_place, wide_window}
 use Rattle.wt_refute.proofs.Shape.{middle_within, next_within}
@@ -318,16 +319,16 @@ free_none n d u e = elim (cases_lt d n) [
 
 -- the free window, and its middle place
 abbrev free_window : Axis → ℕ → Placed
-free_window axis radius = record { width = (window_shape axis radius).0; height = (window_shape axis radius).1; cells = replicate ((window_shape axis radius).0 * (window_shape axis radius).1) None }
+free_window axis radius = record { width = (window_size axis radius).0; height = (window_size axis radius).1; cells = replicate ((window_size axis radius).0 * (window_size axis radius).1) None }
 
 abbrev middle : Axis → ℕ → ℕ
-middle axis radius = radius * (window_shape axis radius).0 + radius
+middle axis radius = radius * (window_size axis radius).0 + radius
 
 abbrev after_middle : Axis → ℕ → ℕ
-after_middle axis radius = next_cell axis (window_shape axis radius).0 (middle axis radius)
+after_middle axis radius = next_cell axis (window_size axis radius).0 (middle axis radius)
 
-free_size : (axis : Axis) (radius : ℕ) → length (free_window axis radius).cells ≡ (window_shape axis radius).0 * (window_shape axis radius).1
-free_size axis radius = length-replicate {A = Option ℕ} ((window_shape axis radius).0 * (window_shape axis radius).1) None
+free_size : (axis : Axis) (radius : ℕ) → length (free_window axis radius).cells ≡ (window_size axis radius).0 * (window_size axis radius).1
+free_size axis radius = length-replicate {A = Option ℕ} ((window_size axis radius).0 * (window_size axis radius).1) None
 
 middle_lt : (axis : Axis) (a radius : ℕ) → middle axis radius < length (free_window axis radius).cells
 middle_lt axis a radius = omega (arith, free_size axis radius, middle_within axis radius)
@@ -362,11 +363,11 @@ window_agrees ts One a b radius la lb m = record {
     ]
   ];
   up = λ d s t es et. elim (got_window One a b radius d s es) [
-    | inl x ↦ elim (got_window One a b radius (d + (2 * radius + 2)) t et) [
+    | inl x ↦ elim (got_window One a b radius (d + (radius + radius + 2)) t et) [
       | inl y ↦ absurd (omega (arith, x.0, y.0))
       | inr y ↦ absurd (omega (arith, x.0, y.0))
     ]
-    | inr x ↦ elim (got_window One a b radius (d + (2 * radius + 2)) t et) [
+    | inr x ↦ elim (got_window One a b radius (d + (radius + radius + 2)) t et) [
       | inl y ↦ absurd (omega (arith, x.0, y.0))
       | inr y ↦ absurd (omega (arith, x.0, y.0))
     ]
@@ -388,11 +389,11 @@ window_agrees ts Two a b radius la lb m = record {
     ]
   ];
   up = λ d s t es et. elim (got_window Two a b radius d s es) [
-    | inl x ↦ elim (got_window Two a b radius (d + (2 * radius + 1)) t et) [
+    | inl x ↦ elim (got_window Two a b radius (d + (radius + radius + 1)) t et) [
       | inl y ↦ absurd (omega (arith, x.0, y.0))
       | inr y ↦ absurd (omega (arith, x.0, y.0))
     ]
-    | inr x ↦ elim (got_window Two a b radius (d + (2 * radius + 1)) t et) [
+    | inr x ↦ elim (got_window Two a b radius (d + (radius + radius + 1)) t et) [
       | inl y ↦ subst (λ (k : ℕ). matches ts Two k t ≡ true) x.1 (subst (λ (k : ℕ). matches ts Two a k ≡ true) y.1 m)
       | inr y ↦ absurd (omega (arith, x.0, y.0))
     ]
@@ -404,9 +405,9 @@ after_other One radius e = omega arith
 after_other Two radius e = omega arith
 
 -- what stands on a begun window is a window of the domino
-stands_window : (ts : List Tile) (axis : Axis) (a b radius : ℕ) (f : ℕ → ℕ → ℕ) → Stands f (window_of axis a b radius) → IsFilling ts (window_shape axis radius).0 (window_shape axis radius).1 f → FillsWindow ts axis a b radius f
+stands_window : (ts : List Tile) (axis : Axis) (a b radius : ℕ) (f : ℕ → ℕ → ℕ) → Stands f (window_of axis a b radius) → IsFilling ts (window_size axis radius).0 (window_size axis radius).1 f → FillsWindow ts axis a b radius f
 stands_window ts axis a b radius f s v =
-    let w = (window_shape axis radius).0 in
+    let w = (window_size axis radius).0 in
     let at = middle_place axis radius in
     let cells = (place (free_window axis radius) (middle axis radius) a).cells in
     let second : tile_in (window_of axis a b radius) (after_middle axis radius) ≡ Some b = get_or-set_same cells (after_middle axis radius) (Some b) None (after_lt axis a radius) in
@@ -426,7 +427,7 @@ tree_refutes ts axis a b radius known la lb m empty =
     let p = window_of axis a b radius in
     let cells = (place (free_window axis radius) (middle axis radius) a).cells in
     let second : tile_in (window_of axis a b radius) (after_middle axis radius) ≡ Some b = get_or-set_same cells (after_middle axis radius) (Some b) None (after_lt axis a radius) in
-    let whole : length (window_of axis a b radius).cells ≡ (window_shape axis radius).0 * (window_shape axis radius).1 =
+    let whole : length (window_of axis a b radius).cells ≡ (window_size axis radius).0 * (window_size axis radius).1 =
     length-set cells (after_middle axis radius) (Some b) ∙ length-set (free_window axis radius).cells (middle axis radius) (Some a) ∙ free_size axis radius in
     refutes_within ts radius known (length (window_of axis a b radius).cells) (window_of axis a b radius) (omega (arith, wide_window axis radius)) whole
     (some_placed (window_of axis a b radius).cells (after_middle axis radius) b second)

@@ -8,13 +8,14 @@ use Rattle.std.proofs.Math.Nat.{div-lt_iff_lt-mul}
 use Rattle.wt_tile.specs.declared.tile.Tile.{Tile}
 use Rattle.wt_tile.specs.declared.tile.Axis.{Axis}
 use Rattle.wt_tile.specs.declared.tile.Axis.TheVariants.{One, Two}
+use Rattle.wt_pattern.specs.Windows.{window_size}
 use Rattle.wt_refute.specs.declared.tree.Refuted.{Refuted}
 use Rattle.wt_refute.specs.Refutation.{Refutation, Branches, branch, cite, no_more, more, tiles_in}
 use Rattle.wt_refute.specs.View.{refutation}
 use Rattle.wt_tile.specs.Matching.{matches, same_axis}
 use Rattle.wt_grid.specs.Order.{has}
 use Rattle.wt_refute.proofs.Filling.{beside, IsFilling, FillsWindow, IsUnfilled, filled_part}
-use Rattle.wt_refute.specs.Placed.{Placed, window_shape, place, window_of, tile_window, next_cell, tile_in, right_of, above, left_of, below, may_join, fits, passing}
+use Rattle.wt_refute.specs.Placed.{Placed, place, window_of, tile_window, next_cell, tile_in, right_of, above, left_of, below, may_join, fits, passing}
 use Rattle.wt_refute.proofs.Shape.{middle_within, next_within}
 use Rattle.wt_refute.specs.Refutes.{lies_inside, serves, next_placed, is_known, is_cited, Refutes, EachRefutes}
 
@@ -29,11 +30,11 @@ beside_part Two f x y i j = let e : y + (j + 1) ≡ y + j + 1 = omega arith in a
 
 -- A domino whose window is empty stands at no place of a valid rectangle with the window inside.
 pub not_in_core : (ts : List Tile) (axis : Axis) (a b radius w h : ℕ) (f : ℕ → ℕ → ℕ) (x y : ℕ) → IsUnfilled ts axis a b radius → IsFilling ts w h f
-    → x + (window_shape axis radius).0 ≤ w → y + (window_shape axis radius).1 ≤ h
+    → x + (window_size axis radius).0 ≤ w → y + (window_size axis radius).1 ≤ h
     → f (x + radius) (y + radius) ≡ a → beside axis f (x + radius) (y + radius) ≡ b → ⊥
 not_in_core ts axis a b radius w h f x y empty v lx ly first second =
     empty (λ i j. f (x + i) (y + j)) (record {
-      valid = filled_part ts w h f x y (window_shape axis radius).0 (window_shape axis radius).1 v lx ly;
+      valid = filled_part ts w h f x y (window_size axis radius).0 (window_size axis radius).1 v lx ly;
       first = first;
       second = beside_part axis f x y radius radius ∙ second;
     })
@@ -275,19 +276,19 @@ free_holds f w n c t e = elim (cases_lt c n) [
   | inr le ↦ absurd (let past = get_or_past (replicate n None) c None (omega (arith, length-replicate {A = Option ℕ} n None)) in let both : None ≡ Some t = sym past ∙ e in cc)
 ]
 
-pub wide_window : (axis : Axis) (radius : ℕ) → radius < (window_shape axis radius).0
+pub wide_window : (axis : Axis) (radius : ℕ) → radius < (window_size axis radius).0
 wide_window One radius = omega arith
 wide_window Two radius = omega arith
 
-pub middle_place : (axis : Axis) (radius : ℕ) → let w = (window_shape axis radius).0 in ((radius * w + radius) % w ≡ radius) × ((radius * w + radius) / w ≡ radius)
+pub middle_place : (axis : Axis) (radius : ℕ) → let w = (window_size axis radius).0 in ((radius * w + radius) % w ≡ radius) × ((radius * w + radius) / w ≡ radius)
 middle_place axis radius =
-    let w = (window_shape axis radius).0 in
+    let w = (window_size axis radius).0 in
     let lt = wide_window axis radius in
     (mod-mul-add radius w radius lt, div-mul-add radius w radius lt)
 
-pub next_place : (axis : Axis) (radius : ℕ) (f : ℕ → ℕ → ℕ) → let w = (window_shape axis radius).0 in let n = next_cell axis w (radius * w + radius) in f (n % w) (n / w) ≡ beside axis f radius radius
+pub next_place : (axis : Axis) (radius : ℕ) (f : ℕ → ℕ → ℕ) → let w = (window_size axis radius).0 in let n = next_cell axis w (radius * w + radius) in f (n % w) (n / w) ≡ beside axis f radius radius
 next_place One radius f =
-    let w = 2 * radius + 2 in
+    let w = radius + radius + 2 in
     let m = middle_place One radius in
     let small : (radius * w + radius) % w + 1 < w = rw m.0 (omega arith) in
     let at = at_right w (radius * w + radius) small in
@@ -295,7 +296,7 @@ next_place One radius f =
     let ey : (radius * w + radius + 1) / w ≡ radius = at.1 ∙ m.1 in
     rw ex (rw ey)
 next_place Two radius f =
-    let w = 2 * radius + 1 in
+    let w = radius + radius + 1 in
     let m = middle_place Two radius in
     let at = at_above w (radius * w + radius) (omega arith) in
     let ex : (radius * w + radius + w) % w ≡ radius = at.0 ∙ m.0 in
@@ -304,8 +305,8 @@ next_place Two radius f =
 
 window_stands : (ts : List Tile) (axis : Axis) (a b radius : ℕ) (f : ℕ → ℕ → ℕ) → FillsWindow ts axis a b radius f → Stands f (window_of axis a b radius)
 window_stands ts axis a b radius f i =
-    let w = (window_shape axis radius).0 in
-    let h = (window_shape axis radius).1 in
+    let w = (window_size axis radius).0 in
+    let h = (window_size axis radius).1 in
     let free = replicate {A = Option ℕ} (w * h) None in
     let m = radius * w + radius in
     let n = next_cell axis w m in
@@ -328,7 +329,7 @@ refuted_empty ts axis a b radius known tree empty r f i =
 
 tile_stands : (ts : List Tile) (tile radius : ℕ) (f : ℕ → ℕ → ℕ) → f radius radius ≡ tile → Stands f (tile_window tile radius)
 tile_stands ts tile radius f e =
-    let w = 2 * radius + 1 in
+    let w = radius + radius + 1 in
     let free = replicate {A = Option ℕ} (w * w) None in
     let m = radius * w + radius in
     let size : length free ≡ w * w = length-replicate {A = Option ℕ} (w * w) None in
@@ -342,5 +343,5 @@ tile_stands ts tile radius f e =
     }
 
 pub tile_excluded : (ts : List Tile) (tile radius : ℕ) (tree : Refutation) → Refutes ts radius [] (tile_window tile radius) tree
-    → (f : ℕ → ℕ → ℕ) → IsFilling ts (2 * radius + 1) (2 * radius + 1) f → f radius radius ≡ tile → ⊥
+    → (f : ℕ → ℕ → ℕ) → IsFilling ts (radius + radius + 1) (radius + radius + 1) f → f radius radius ≡ tile → ⊥
 tile_excluded ts tile radius tree r f v e = none_stands ts radius [] tt f tree (tile_window tile radius) (tile_stands ts tile radius f e) v r

@@ -68,7 +68,7 @@ module _ (ts : List Tile) (known : List Refuted) (right : (i : ℕ) (k : Refuted
 pub absent : (ts : List Tile) (tile radius : ℕ) (tree : Tree) → tile_tree_fault ts tile radius tree ≡ None
     → (p : Grid) → IsPattern ts p → (x y : ℕ) → x < (core radius p).width → y < (core radius p).height → cell (core radius p) x y ≡ tile → ⊥
 absent ts tile radius tree e p h x y lx ly same =
-    let side = 2 * radius + 1 in
+    let side = radius + radius + 1 in
     let all = cells_fill ts p p.width p.height h.1 h.2 (omega arith) (omega arith) in
     let part = filled_part ts p.width p.height (cell p) x y side side all (omega arith) (omega arith) in
     let at = at_part p radius radius (p.width - (radius + radius)) (p.height - (radius + radius)) x y lx ly in

@@ -9,8 +9,8 @@ use Rattle.wt_grid.specs.Grid.{Axis as GridAxis}
 use Rattle.wt_grid.specs.Parts.{AllBelow, IsValid, IsWindow}
 use Rattle.wt_grid.proofs.Bridge.{cell_of}
 use Rattle.wt_grid.proofs.Parts.{grid_grid}
-use Rattle.wt_pattern.specs.Windows.{IsEmptyWindow}
-use Rattle.wt_refute.specs.Placed.{window_shape}
+use Rattle.wt_pattern.specs.Windows.{IsEmptyWindow, window_size}
+use Rattle.wt_refute.specs.Placed.{}
 
 -- the tile next to a place along the axis
 abbrev pub beside : Axis → (ℕ → ℕ → ℕ) → ℕ → ℕ → ℕ
@@ -25,7 +25,7 @@ pub record IsFilling (ts : List Tile) (width height : ℕ) (f : ℕ → ℕ → 
 
 -- f fills the window, with a and b in the middle
 pub record FillsWindow (ts : List Tile) (axis : Axis) (a b radius : ℕ) (f : ℕ → ℕ → ℕ) : Type 0 where
-  pub valid : IsFilling ts (window_shape axis radius).0 (window_shape axis radius).1 f
+  pub valid : IsFilling ts (window_size axis radius).0 (window_size axis radius).1 f
   pub first : f radius radius ≡ a
   pub second : beside axis f radius radius ≡ b
 
@@ -58,12 +58,12 @@ cells_fill ts g w h b v lw lh = record {
 
 window_fills : (ts : List Tile) (axis : Axis) (a b r : ℕ) (g : Grid) → IsWindow (length ts) (matching ts) (grid_axis axis) a b r g → FillsWindow ts axis a b r (cell g)
 window_fills ts One a b r g w = record {
-  valid = cells_fill ts g (2 * r + 2) (2 * r + 1) w.tiles w.valid (omega (arith, w.long)) (omega (arith, w.wide));
+  valid = cells_fill ts g (r + r + 2) (r + r + 1) w.tiles w.valid (omega (arith, w.long)) (omega (arith, w.wide));
   first = w.first;
   second = let next : r + 1 ≡ suc r = omega arith in rw next w.second;
 }
 window_fills ts Two a b r g w = record {
-  valid = cells_fill ts g (2 * r + 1) (2 * r + 2) w.tiles w.valid (omega (arith, w.wide)) (omega (arith, w.long));
+  valid = cells_fill ts g (r + r + 1) (r + r + 2) w.tiles w.valid (omega (arith, w.wide)) (omega (arith, w.long));
   first = w.first;
   second = let next : r + 1 ≡ suc r = omega arith in rw next w.second;
 }
@@ -80,24 +80,24 @@ filling_valid ts w h f v two y x ly lx =
     rw (cell_of w h x y f lx (omega arith), cell_of w h x (suc y) f lx ly, next) (v.up x y lx (omega arith))
 
 fills_window : (ts : List Tile) (axis : Axis) (a b r : ℕ) (f : ℕ → ℕ → ℕ) → FillsWindow ts axis a b r f
-    → IsWindow (length ts) (matching ts) (grid_axis axis) a b r (grid_of (window_shape axis r).0 (window_shape axis r).1 f)
+    → IsWindow (length ts) (matching ts) (grid_axis axis) a b r (grid_of (window_size axis r).0 (window_size axis r).1 f)
 fills_window ts One a b r f i = record {
-  grid = grid_grid (2 * r + 2) (2 * r + 1) f (omega arith) (omega arith);
+  grid = grid_grid (r + r + 2) (r + r + 1) f (omega arith) (omega arith);
   long = omega arith;
   wide = omega arith;
-  tiles = filling_below ts (2 * r + 2) (2 * r + 1) f i.valid;
-  valid = filling_valid ts (2 * r + 2) (2 * r + 1) f i.valid;
-  first = cell_of (2 * r + 2) (2 * r + 1) r r f (omega arith) (omega arith) ∙ i.first;
-  second = let next : suc r ≡ r + 1 = omega arith in cell_of (2 * r + 2) (2 * r + 1) (suc r) r f (omega arith) (omega arith) ∙ rw next i.second;
+  tiles = filling_below ts (r + r + 2) (r + r + 1) f i.valid;
+  valid = filling_valid ts (r + r + 2) (r + r + 1) f i.valid;
+  first = cell_of (r + r + 2) (r + r + 1) r r f (omega arith) (omega arith) ∙ i.first;
+  second = let next : suc r ≡ r + 1 = omega arith in cell_of (r + r + 2) (r + r + 1) (suc r) r f (omega arith) (omega arith) ∙ rw next i.second;
 }
 fills_window ts Two a b r f i = record {
-  grid = grid_grid (2 * r + 1) (2 * r + 2) f (omega arith) (omega arith);
+  grid = grid_grid (r + r + 1) (r + r + 2) f (omega arith) (omega arith);
   long = omega arith;
   wide = omega arith;
-  tiles = filling_below ts (2 * r + 1) (2 * r + 2) f i.valid;
-  valid = filling_valid ts (2 * r + 1) (2 * r + 2) f i.valid;
-  first = cell_of (2 * r + 1) (2 * r + 2) r r f (omega arith) (omega arith) ∙ i.first;
-  second = let next : suc r ≡ r + 1 = omega arith in cell_of (2 * r + 1) (2 * r + 2) r (suc r) f (omega arith) (omega arith) ∙ rw next i.second;
+  tiles = filling_below ts (r + r + 1) (r + r + 2) f i.valid;
+  valid = filling_valid ts (r + r + 1) (r + r + 2) f i.valid;
+  first = cell_of (r + r + 1) (r + r + 2) r r f (omega arith) (omega arith) ∙ i.first;
+  second = let next : suc r ≡ r + 1 = omega arith in cell_of (r + r + 1) (r + r + 2) r (suc r) f (omega arith) (omega arith) ∙ rw next i.second;
 }
 
 -- A window is empty exactly where nothing fills it.
@@ -105,4 +105,4 @@ pub unfilled_empty : (ts : List Tile) (axis : Axis) (a b r : ℕ) → IsUnfilled
 unfilled_empty ts axis a b r u g w = u (cell g) (window_fills ts axis a b r g w)
 
 pub empty_unfilled : (ts : List Tile) (axis : Axis) (a b r : ℕ) → IsEmptyWindow ts axis a b r → IsUnfilled ts axis a b r
-empty_unfilled ts axis a b r e f i = e (grid_of (window_shape axis r).0 (window_shape axis r).1 f) (fills_window ts axis a b r f i)
+empty_unfilled ts axis a b r e f i = e (grid_of (window_size axis r).0 (window_size axis r).1 f) (fills_window ts axis a b r f i)

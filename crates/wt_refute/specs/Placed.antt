@@ -4,11 +4,7 @@ use Rattle.wt_tile.specs.declared.tile.Tile.{Tile}
 use Rattle.wt_tile.specs.declared.tile.Axis.{Axis}
 use Rattle.wt_tile.specs.declared.tile.Axis.TheVariants.{One, Two}
 use Rattle.wt_tile.specs.Matching.{matches}
-
--- the width and height of the window of a radius round two tiles that follow each other along the axis
-abbrev pub window_shape : Axis → ℕ → ℕ × ℕ
-window_shape One radius = (2 * radius + 2, 2 * radius + 1)
-window_shape Two radius = (2 * radius + 1, 2 * radius + 2)
+use Rattle.wt_pattern.specs.Windows.{window_size}
 
 -- a rectangle with some of its tiles placed; cell (x, y) has the number y * width + x
 pub record Placed : Type 0 where
@@ -30,15 +26,15 @@ next_cell Two width cell = cell + width
 -- the window of a domino, with its two tiles placed
 abbrev pub window_of : Axis → ℕ → ℕ → ℕ → Placed
 window_of axis a b radius =
-    let w = (window_shape axis radius).0 in
-    let h = (window_shape axis radius).1 in
+    let w = (window_size axis radius).0 in
+    let h = (window_size axis radius).1 in
     let middle = radius * w + radius in
     place (place (record { width = w; height = h; cells = replicate (w * h) None }) middle a) (next_cell axis w middle) b
 
 -- the square window of a tile, with the tile placed in its middle
 abbrev pub tile_window : ℕ → ℕ → Placed
 tile_window tile radius =
-    let side = 2 * radius + 1 in
+    let side = radius + radius + 1 in
     place (record { width = side; height = side; cells = replicate (side * side) None }) (radius * side + radius) tile
 
 -- the tile at a cell, where one is placed
