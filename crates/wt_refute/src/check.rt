@@ -3,6 +3,7 @@ ghost use Rattle.std.specs.Prelude.{◌≡◌, ℕ, ◌+◌, ◌-◌, ◌*◌, �
 ghost use Rattle.std.specs.Option.{option_map};
 ghost use Rattle.wt_refute.specs.Refutation.{node_count, tiles_in, held};
 ghost use Rattle.wt_refute.specs.View.{refutation, children_view};
+ghost use Rattle.wt_pattern.specs.Windows.{window_size};
 ghost use Rattle.wt_refute.specs.Placed.{placed, window_of, tile_window, next_cell as cell_beside};
 ghost use Rattle.wt_refute.specs.Entries.{ascends};
 ghost use Rattle.wt_refute.specs.Refutes.{lies_inside as is_inside, next_placed as the_next, is_cited as cited, is_branching as branching, first_wrong, tree_fault, tile_tree_fault};
