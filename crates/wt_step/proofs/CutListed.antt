@@ -1,18 +1,15 @@
 -- The cut lines of a rectangle, by the first and the last line.
-use Rattle.std.proofs.Common.{arith, ◌≡◌, ◌≤◌, ◌<◌, ◌+◌, ◌-◌, ℕ, zero, suc, List, [], ◌∷◌, ◌++◌, Bool, true, false, not, if◌then◌else◌, refl, sym, ◌∙◌, ap}
+use Rattle.std.proofs.Common.{arith, ◌≡◌, ◌+◌, ◌-◌, ℕ, suc, List, [], ◌∷◌, ◌++◌, Bool, true, false, not, if◌then◌else◌, refl, sym, ◌∙◌, ap}
 use Rattle.wt_tile.specs.declared.tile.Side.{Side}
 use Rattle.wt_tile.specs.declared.tile.Side.TheVariants.{After, Before}
 use Rattle.wt_grid.specs.Grid.{listed}
 use Rattle.wt_grid.specs.Lines.{is_marker_line, cut_end}
 use Rattle.wt_grid.specs.Cuts.{backwards, cut_front, cut_lines, cut}
 use Rattle.wt_grid.proofs.Backwards.{backwards_append, backwards_twice}
+use Rattle.wt_step.specs.Blocks.{one_if}
 use Rattle.wt_step.specs.Meaning.{line_side}
 use Rattle.wt_step.proofs.Listed.{listed_last}
 use Rattle.wt_step.specs.Words.{ends_block}
-
-abbrev pub one_if : Bool → ℕ
-one_if true = 1
-one_if false = 0
 
 -- the lines behind the first, where that is cut
 abbrev pub behind : {A : Type 0} → Bool → (ℕ → A) → ℕ → A

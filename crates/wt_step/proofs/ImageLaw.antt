@@ -4,14 +4,13 @@ use Rattle.std.proofs.lemmas.Bool.Decides.{nat_tests}
 use Rattle.std.proofs.lemmas.List.{length-map}
 use Rattle.std.proofs.Math.ListN.{get_or-map}
 use Rattle.wt_tile.specs.declared.tile.Axis.{Axis}
-use Rattle.wt_tile.specs.Matching.{matches, other, grid_axis, tile_axis, matching}
+use Rattle.wt_tile.specs.Matching.{matches, other, grid_axis, matching}
 use Rattle.wt_pattern.specs.Patterns.{IsPattern}
 use Rattle.wt_grid.specs.Order.{all_of}
 use Rattle.wt_grid.proofs.Order.{both}
-use Rattle.wt_grid.specs.Lines.{Piece, one, two, IsImage}
+use Rattle.wt_grid.specs.Lines.{Piece, IsImage}
 use Rattle.wt_grid.specs.Grid.{Grid, lines}
 use Rattle.wt_grid.specs.Parts.{AllBelow}
-use Rattle.wt_grid.specs.Parts.{other as other_grid}
 use Rattle.wt_grid.specs.Images.{piece_at, is_pair, PieceBelow, image_grid}
 use Rattle.wt_grid.specs.Images.{first_tile as first_of, last_tile as last_of}
 use Rattle.wt_grid.proofs.Coarse.{MatchAcross}
@@ -19,8 +18,8 @@ use Rattle.wt_grid.proofs.ImageGrids.{valid_image}
 use Rattle.wt_morphism.specs.declared.image.Image.{Image}
 use Rattle.wt_morphism.specs.declared.image.Image.TheVariants.{One as Single, Two as Double}
 use Rattle.wt_step.specs.declared.raw.RawStep.{RawStep}
-use Rattle.wt_step.specs.Words.{allows, is_barred, is_block, image_at, image_fits, images_match, first_tile, last_tile, pieces_match, times}
-use Rattle.wt_step.specs.Faults.{is_named_well, is_good_image}
+use Rattle.wt_step.specs.Words.{allows, is_block, image_at, image_fits, images_match, first_tile, last_tile, pieces_match, times}
+use Rattle.wt_step.specs.Faults.{is_good_image}
 use Rattle.wt_step.specs.Good.{GoodStep}
 use Rattle.wt_step.specs.Meaning.{piece, pieces}
 use Rattle.wt_step.proofs.Tables.{same_itself, not_other, in_range}

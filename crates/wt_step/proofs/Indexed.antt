@@ -1,5 +1,5 @@
 -- Lists with the numbers of images noted at their tiles.
-use Rattle.std.proofs.Common.{arith, ◌≡◌, ◌≢◌, ◌⊎◌, ◌≤◌, ◌<◌, ◌+◌, ◌*◌, ◌/◌, ◌%◌, ◌&&◌, ℕ, zero, suc, List, [], ◌∷◌, length, get_or, set, slice_get, slice_index, slice_index_or, Option, Some, Bool, true, false, nat_eq, nat_lt, refl, sym, ◌∙◌, ap, subst, inl, inr}
+use Rattle.std.proofs.Common.{arith, ◌≡◌, ◌≤◌, ◌<◌, ◌+◌, ◌*◌, ◌/◌, ◌%◌, ℕ, zero, suc, List, [], ◌∷◌, length, get_or, set, slice_get, slice_index_or, Some, Bool, true, nat_eq, nat_lt, refl, sym, ◌∙◌, ap, subst, inl, inr}
 use Rattle.std.proofs.lemmas.Bool.{cases_lt}
 use Rattle.std.proofs.lemmas.Bool.Decides.{nat_tests}
 use Rattle.std.proofs.lemmas.List.{get_or-set_same, get_or-set_other, length-set}
@@ -48,7 +48,6 @@ pub fits_at : (s : RawStep) → GoodStep s → (i : ℕ) → i < length s.images
 fits_at s g i lt = each_of (image_fits (length s.fine.tiles)) s.images i (Single 0) (both (nat_eq (length s.images) (length s.coarse.tiles)) (all_of (image_fits (length s.fine.tiles)) s.images) g.shaped.images).1 lt
 
 module _ (s : RawStep) (g : GoodStep s) (k : ℕ) (lk : k < length s.images) (singles pairs : List ℕ) (h : IsIndexed s.images (length s.fine.tiles) k singles pairs) where
-
   fitting : (i : ℕ) (x : Image) → slice_get s.images i ≡ Some x → image_fits (length s.fine.tiles) x ≡ true
   fitting i x e = let r = some_of s.images i x (Single 0) e in subst (λ (y : Image). image_fits (length s.fine.tiles) y ≡ true) r.1 (fits_at s g i r.0)
 
@@ -88,19 +87,19 @@ module _ (s : RawStep) (g : GoodStep s) (k : ℕ) (lk : k < length s.images) (si
           | inr hi ↦ absurd (let x : i ≡ k = omega arith in let y : Some (Single c) ≡ Some (Double a b) = sym f ∙ (ap (slice_get s.images) x ∙ e) in cc)
         ];
         twos = λ i c d lt f.
-        let fi = both (nat_lt c (length s.fine.tiles)) (nat_lt d (length s.fine.tiles)) (fitting i (Double c d) f) in
-        let ld = less d (length s.fine.tiles) fi.1 in
-        elim (cases_lt i k) [
-          | inl lo ↦ get_or-set_other pairs (a * length s.fine.tiles + b) (c * length s.fine.tiles + d) k 0 (λ same.
-              let z = same_place (length s.fine.tiles) c d a b ld lb same in
-              let p : Double c d ≡ Double a b = (let z0 : c ≡ a = z.0 in let z1 : d ≡ b = z.1 in cc) in
-              let x = one_image s g i k (Double c d) f (e ∙ ap Some (sym p)) in absurd (omega arith)) ∙ h.twos i c d lo f
-          | inr hi ↦
-              let x : i ≡ k = omega arith in
-              let y : Some (Double c d) ≡ Some (Double a b) = sym f ∙ (ap (slice_get s.images) x ∙ e) in
-              let z : c * length s.fine.tiles + d ≡ a * length s.fine.tiles + b = (let z0 : c ≡ a = cc in let z1 : d ≡ b = cc in rw (z0, z1) refl) in
-              ap (λ (u : ℕ). get_or (set pairs (a * length s.fine.tiles + b) k) u 0) z ∙ (get_or-set_same pairs (a * length s.fine.tiles + b) k 0 (let w : length pairs ≡ length s.fine.tiles * length s.fine.tiles = h.size2 in rw w inside) ∙ sym x)
-        ];
+            let fi = both (nat_lt c (length s.fine.tiles)) (nat_lt d (length s.fine.tiles)) (fitting i (Double c d) f) in
+            let ld = less d (length s.fine.tiles) fi.1 in
+            elim (cases_lt i k) [
+              | inl lo ↦ get_or-set_other pairs (a * length s.fine.tiles + b) (c * length s.fine.tiles + d) k 0 (λ same.
+                  let z = same_place (length s.fine.tiles) c d a b ld lb same in
+                  let p : Double c d ≡ Double a b = (let z0 : c ≡ a = z.0 in let z1 : d ≡ b = z.1 in cc) in
+                  let x = one_image s g i k (Double c d) f (e ∙ ap Some (sym p)) in absurd (omega arith)) ∙ h.twos i c d lo f
+              | inr hi ↦
+                  let x : i ≡ k = omega arith in
+                  let y : Some (Double c d) ≡ Some (Double a b) = sym f ∙ (ap (slice_get s.images) x ∙ e) in
+                  let z : c * length s.fine.tiles + d ≡ a * length s.fine.tiles + b = (let z0 : c ≡ a = cc in let z1 : d ≡ b = cc in rw (z0, z1) refl) in
+                  ap (λ (u : ℕ). get_or (set pairs (a * length s.fine.tiles + b) k) u 0) z ∙ (get_or-set_same pairs (a * length s.fine.tiles + b) k 0 (let w : length pairs ≡ length s.fine.tiles * length s.fine.tiles = h.size2 in rw w inside) ∙ sym x)
+            ];
       }
 
   -- one image more

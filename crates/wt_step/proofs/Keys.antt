@@ -1,13 +1,10 @@
 -- The lists of a step are split at each key.
 use Rattle.std.proofs.Common.{arith, ◌≡◌, ◌⊎◌, ◌<◌, ℕ, List, Bool, true, false, ◌&&◌, ◌||◌, nat_eq, nat_lt, refl, inl, inr}
 use Rattle.std.proofs.lemmas.Bool.Decides.{nat_tests}
-use Rattle.wt_tile.specs.declared.tile.Axis.{Axis}
-use Rattle.wt_refute.specs.declared.tree.Refuted.{Refuted}
 use Rattle.wt_grid.specs.Order.{in_order, IsSplit}
 use Rattle.wt_grid.proofs.Order.{split, both}
-use Rattle.wt_step.specs.Words.{pairs_follow, pair_fits, entry_fits}
+use Rattle.wt_step.specs.Words.{pairs_follow, pair_fits}
 use Rattle.wt_grid.specs.Pairs.{pair_before, is_pair}
-use Rattle.wt_refute.specs.Entries.{entry_before, is_entry, entries_follow, axis_number}
 
 -- by a number, and where that is the same by p
 abbrev first_by : ℕ → ℕ → Bool → Bool

@@ -1,16 +1,16 @@
 -- The coarse rectangle that is read from the blocks of a pattern is the one of the law.
-use Rattle.std.proofs.Common.{arith, ◌≡◌, ◌≤◌, ◌<◌, ◌+◌, ◌-◌, ◌*◌, ◌&&◌, ℕ, zero, suc, List, [], ◌∷◌, length, get_or, Bool, true, false, not, nat_lt, if◌then◌else◌, refl, sym, ◌∙◌, ap, subst}
+use Rattle.std.proofs.Common.{arith, ◌≡◌, ◌≤◌, ◌<◌, ◌+◌, ◌-◌, ◌&&◌, ℕ, zero, suc, List, [], ◌∷◌, length, get_or, Bool, true, false, not, nat_lt, refl, sym, ◌∙◌, ap, subst}
 use Rattle.std.proofs.lemmas.Bool.Decides.{nat_tests}
 use Rattle.wt_tile.specs.declared.tile.Axis.{Axis}
 use Rattle.wt_tile.specs.declared.tile.Axis.TheVariants.{One, Two}
 use Rattle.wt_tile.specs.Matching.{grid_axis}
 use Rattle.wt_grid.specs.Lines.{IsImage, AllLong, is_marker_line}
 use Rattle.wt_grid.specs.Cuts.{cut}
-use Rattle.wt_grid.specs.Grid.{Grid, IsGrid, cell, along, across, at, listed, lines, grid_of}
-use Rattle.wt_grid.specs.Grid.{Axis as GridAxis, one as first_axis, two as second_axis}
+use Rattle.wt_grid.specs.Grid.{Grid, IsGrid, along, across, at, listed, lines, grid_of}
+use Rattle.wt_grid.specs.Grid.{Axis as GridAxis}
 use Rattle.wt_grid.specs.Parts.{core}
 use Rattle.wt_grid.proofs.Parts.{at_core, along_core, across_core, grid_grid}
-use Rattle.wt_grid.proofs.Bridge.{length-listed, get_or-listed, cell_of}
+use Rattle.wt_grid.proofs.Bridge.{get_or-listed, cell_of}
 use Rattle.wt_grid.proofs.Law.{cut_long}
 use Rattle.wt_grid.proofs.Grids.{length_lines, long_lines, long_coarse}
 use Rattle.wt_grid.proofs.Rectangles.{same_cells, wide_along}
@@ -20,9 +20,10 @@ use Rattle.wt_step.specs.declared.blocks.Block.{Block}
 use Rattle.wt_step.specs.Words.{is_marker, ends_block}
 use Rattle.wt_step.specs.Good.{GoodStep}
 use Rattle.wt_step.specs.Meaning.{line_side, pieces, IsCoarse}
-use Rattle.wt_step.specs.Blocks.{cell_at, core_at, is_marked_line, pairs_at, blocks_in, block_tile, block_at, coarse_at, coarse_grid, IsIndexed}
+use Rattle.wt_step.specs.Coarse.{is_marked}
+use Rattle.wt_step.specs.Blocks.{core_at, is_marked_line, pairs_at, blocks_in, block_tile, block_at, coarse_at, coarse_grid, one_if, ends_at, IsIndexed}
 use Rattle.wt_step.proofs.Desubstitution.{some_coarse}
-use Rattle.wt_step.proofs.CutListed.{one_if, behind, cut_listed}
+use Rattle.wt_step.proofs.CutListed.{behind, cut_listed}
 use Rattle.wt_step.proofs.Readings.{Reads, reads, length-reads, tiles}
 
 listed_same : {A : Type 0} (n : ℕ) (f h : ℕ → A) → ((k : ℕ) → k < n → f k ≡ h k) → listed n f ≡ listed n h
@@ -140,5 +141,34 @@ module _ (s : RawStep) (g : GoodStep s) (p : Grid) where
           let l = as_long q.0 q.1 in
           let w = as_wide q.0 iq q.1 in
           let same : coarse_grid s p ones twos bs s.axis (suc m) ≡ q.0 = same_grid s p ones twos bs (suc m) (omega arith) some_blocks s.axis q.0 iq l w
-              (λ i j li lj. sym (line_cell (grid_axis s.axis) q.0 i j (omega arith) (omega arith)) ∙ tiles s g p (suc m) ones twos index bs (lines (grid_axis s.axis) q.0) (read q.0 q.1) i j li lj) in
+          (λ i j li lj. sym (line_cell (grid_axis s.axis) q.0 i j (omega arith) (omega arith)) ∙ tiles s g p (suc m) ones twos index bs (lines (grid_axis s.axis) q.0) (read q.0 q.1) i j li lj) in
           subst (λ (r : Grid). IsCoarse s p r × IsPattern s.coarse.tiles r) (sym same) (q.1, pat)
+
+module _ (s : RawStep) (g : GoodStep s) (p : Grid) (h : IsPattern s.fine.tiles p) (la : 3 ≤ along (grid_axis s.axis) (core s.radius p)) (bs : List Block) where
+  pub some_blocks_of : (k : ℕ) → across (grid_axis s.axis) (core s.radius p) ≡ k → 1 ≤ k
+      → bs ≡ blocks_in (pairs_at s p) false (one_if (low s g p)) (along (grid_axis s.axis) (core s.radius p) - (one_if (low s g p) + one_if (high s g p)))
+      → (ones twos : List ℕ) → IsIndexed s.images (length s.fine.tiles) (length s.images) ones twos → 1 ≤ length bs
+  some_blocks_of zero e le eb ones twos index = absurd (omega arith)
+  some_blocks_of (suc m) e le eb ones twos index = some_blocks s g p h la m e bs eb ones twos index
+
+  pub parsed_of : (k : ℕ) → across (grid_axis s.axis) (core s.radius p) ≡ k → 1 ≤ k
+      → bs ≡ blocks_in (pairs_at s p) false (one_if (low s g p)) (along (grid_axis s.axis) (core s.radius p) - (one_if (low s g p) + one_if (high s g p)))
+      → (ones twos : List ℕ) → IsIndexed s.images (length s.fine.tiles) (length s.images) ones twos
+      → IsCoarse s p (coarse_grid s p ones twos bs s.axis k) × IsPattern s.coarse.tiles (coarse_grid s p ones twos bs s.axis k)
+  parsed_of zero e le eb ones twos index = absurd (omega arith)
+  parsed_of (suc m) e le eb ones twos index = parsed s g p h la m e bs eb ones twos index
+
+-- whether a line of the core is one of markers
+pub marked_same : (s : RawStep) (g : GoodStep s) (p : Grid) (i : ℕ) → i < along (grid_axis s.axis) (core s.radius p) → 1 ≤ across (grid_axis s.axis) (core s.radius p) → is_marked_line s p i ≡ is_marked s p i
+marked_same s g p i li lj = ap (is_marker s) (sym (core_cell s g p i 0 li (omega arith)))
+
+-- what the code makes of its blocks
+pub taken : (s : RawStep) (g : GoodStep s) (p : Grid) → IsPattern s.fine.tiles p → 3 ≤ along (grid_axis s.axis) (core s.radius p)
+    → (k : ℕ) → across (grid_axis s.axis) (core s.radius p) ≡ k → 1 ≤ k → (bs : List Block) (lo hi : Bool)
+    → lo ≡ ends_at s p 0 → hi ≡ not (ends_at s p (along (grid_axis s.axis) (core s.radius p) - 1))
+    → bs ≡ blocks_in (pairs_at s p) false (one_if lo) (along (grid_axis s.axis) (core s.radius p) - (one_if lo + one_if hi))
+    → (ones twos : List ℕ) → IsIndexed s.images (length s.fine.tiles) (length s.images) ones twos → (q : Grid) → q ≡ coarse_grid s p ones twos bs s.axis k
+    → IsCoarse s p q × IsPattern s.coarse.tiles q
+taken s g p h la k ek lk bs lo hi el eh eb ones twos index q eq =
+    let r = parsed_of s g p h la bs k ek lk (rw (el, eh) at eb) ones twos index in
+    subst (λ (q : Grid). IsCoarse s p q × IsPattern s.coarse.tiles q) (sym eq) r

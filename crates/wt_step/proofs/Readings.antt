@@ -1,5 +1,5 @@
 -- The blocks of a cut core are read as the coarse lines whose image it is.
-use Rattle.std.proofs.Common.{arith, ◌≡◌, ◌≤◌, ◌<◌, ◌+◌, ◌-◌, ◌*◌, ◌&&◌, ℕ, zero, suc, List, [], ◌∷◌, length, get_or, slice_get, slice_index, Option, Some, Bool, true, false, not, if◌then◌else◌, refl, sym, ◌∙◌, ap, subst, inl, inr}
+use Rattle.std.proofs.Common.{arith, ◌≡◌, ◌<◌, ◌+◌, ℕ, zero, suc, List, [], ◌∷◌, length, get_or, slice_get, Some, Bool, true, false, refl, sym, ◌∙◌, ap, subst, inl, inr}
 use Rattle.std.proofs.lemmas.Option.{slice_get-map}
 use Rattle.wt_tile.specs.declared.tile.Side.{Side}
 use Rattle.wt_tile.specs.declared.tile.Side.TheVariants.{After, Before}
@@ -12,7 +12,7 @@ use Rattle.wt_step.specs.declared.blocks.Block.{Block}
 use Rattle.wt_step.specs.Words.{is_marker, joined}
 use Rattle.wt_step.specs.Good.{GoodStep}
 use Rattle.wt_step.specs.Meaning.{piece, pieces}
-use Rattle.wt_step.specs.Blocks.{core_at, pairs_at, blocks_in, block_tile, block_at, IsIndexed}
+use Rattle.wt_step.specs.Blocks.{core_at, blocks_in, block_tile, block_at, IsIndexed}
 use Rattle.wt_step.proofs.Tables.{singles, doubles, from_piece, from_pieces, some_of}
 
 -- a line that begins no block by itself begins none with a non-marker line before it
@@ -123,8 +123,9 @@ module _ (s : RawStep) (g : GoodStep s) where
               let k = image_first qs (c (i + 1)) (rest (i + 1)) (listed n (λ k. f (suc (suc k)))) (subst (λ (u : List ℕ). IsImage (pieces s) qs (u ∷ listed n (λ k. f (suc (suc k))))) e1 x.1) in
               clash (joined s.side false (is_marker s (c (i + 1)))) (ap (λ (b : Bool). joined s.side b (is_marker s (c (i + 1)))) (sym m) ∙ t) k)
           | inr x ↦ rw t (
-              subst (λ (v : List ℕ). Pairs (pieces s) q (c i ∷ rest i) v) e1 (subst (λ (u : List ℕ). Pairs (pieces s) q u (f 1)) e0 x.0),
-              two_more x.1)
+            subst (λ (v : List ℕ). Pairs (pieces s) q (c i ∷ rest i) v) e1 (subst (λ (u : List ℕ). Pairs (pieces s) q u (f 1)) e0 x.0),
+            two_more x.1,
+          )
         ]
         go false t h two_more one_more = elim h [
           | inl x ↦ rw t (subst (λ (u : List ℕ). Singles (pieces s) q u) e0 x.0, one_more x.1)

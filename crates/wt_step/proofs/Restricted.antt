@@ -111,7 +111,7 @@ kept_lines : (kept : List ℕ) (n m : ℕ) (f : ℕ → ℕ → ℕ) → ((i j :
 kept_lines kept zero m f h = tt
 kept_lines kept (suc n) m f h = (kept_line kept m (f 0) (λ j lt. h 0 j (omega arith) lt), kept_lines kept n m (λ i. f (suc i)) (λ i j li lj. h (suc i) j (omega arith) lj))
 
-kept_place : (kept : List ℕ) (a : ℕ) → has (nat_eq a) kept ≡ true → (i : ℕ) × (slice_get kept i ≡ Some a)
+pub kept_place : (kept : List ℕ) (a : ℕ) → has (nat_eq a) kept ≡ true → (i : ℕ) × (slice_get kept i ≡ Some a)
 kept_place kept a h =
     let r = has_some (nat_eq a) kept h in
     let same : r.1 ≡ a = (let e = r.3 in grind (arith, nat_tests, e)) in
@@ -162,7 +162,7 @@ module _ (s : RawRestrict) (g : GoodRestrict s) where
           let same : t ≡ l.1.tile = (let f = l.3 in grind (arith, nat_tests, f)) in
           absurd (absent s.fine.tiles l.1.tile s.radius l.1.tree (g.trees l.0 l.1 l.2) c p x y lx ly same)
 
-  count_kept : length s.kept ≡ length s.coarse.tiles
+  pub count_kept : length s.kept ≡ length s.coarse.tiles
   count_kept = let e = (both (in_order (is_below (length s.fine.tiles)) follows s.kept) (nat_eq (length s.kept) (length s.coarse.tiles)) g.sorted.kept).1 in grind (arith, nat_tests, e)
 
   kept_joined : (axis : Axis) (i j a b : ℕ) → slice_get s.kept i ≡ Some a → slice_get s.kept j ≡ Some b → matches s.fine.tiles axis a b ≡ true → matches s.coarse.tiles axis i j ≡ true
@@ -200,13 +200,17 @@ module _ (s : RawRestrict) (g : GoodRestrict s) where
       let m : length (kept_pieces s) ≡ length s.coarse.tiles = length-map s.kept one ∙ count_kept in
       (q.0, i, (q.1, subst (λ (n : ℕ). AllBelow n q.0) m (below_lines first_axis (length (kept_pieces s)) q.0 (in_image (kept_pieces s) (lines first_axis q.0) ls i)), lines_field (matching s.coarse.tiles) first_axis q.0 f))
 
+  pub kept_once : (i j a : ℕ) → slice_get s.kept i ≡ Some a → slice_get s.kept j ≡ Some a → i ≡ j
+  kept_once i j a e f =
+      let o = (both (in_order (is_below (length s.fine.tiles)) follows s.kept) (nat_eq (length s.kept) (length s.coarse.tiles)) g.sorted.kept).0 in
+      one_place (λ z. nat_lt z a) (nat_eq a) s.kept i j a a (numbers_split (length s.fine.tiles) a s.kept o) e f (same_number a) (same_number a)
+
   ones_apart : (i j : ℕ) (p : Piece) → slice_get (kept_pieces s) i ≡ Some p → slice_get (kept_pieces s) j ≡ Some p → i ≡ j
   ones_apart i j p e f =
       let x = of_one (slice_get s.kept i) p (sym (slice_get-map one s.kept i) ∙ e) in
       let y = of_one (slice_get s.kept j) p (sym (slice_get-map one s.kept j) ∙ f) in
-      let o = (both (in_order (is_below (length s.fine.tiles)) follows s.kept) (nat_eq (length s.kept) (length s.coarse.tiles)) g.sorted.kept).0 in
       let same : x.0 ≡ y.0 = sym (one_first x.0 p x.2) ∙ one_first y.0 p y.2 in
-      one_place (λ z. nat_lt z x.0) (nat_eq x.0) s.kept i j x.0 y.0 (numbers_split (length s.fine.tiles) x.0 s.kept o) x.1 y.1 (same_number x.0) (ap (nat_eq x.0) (sym same) ∙ same_number x.0)
+      kept_once i j x.0 x.1 (y.1 ∙ ap Some (sym same))
 
   no_two : (i a b : ℕ) → slice_get (kept_pieces s) i ≡ Some (two a b) → ⊥
   no_two i a b e = let x = of_one (slice_get s.kept i) (two a b) (sym (slice_get-map one s.kept i) ∙ e) in let f : one x.0 ≡ two a b = x.2 in cc

@@ -5,10 +5,11 @@ use Rattle.wt_tile.specs.declared.tile.Axis.TheVariants.{One, Two}
 use Rattle.wt_tile.specs.Matching.{grid_axis}
 use Rattle.wt_grid.specs.Grid.{Grid, along, across, at, grid_of}
 use Rattle.wt_step.specs.declared.raw.RawStep.{RawStep}
+use Rattle.wt_step.specs.declared.raw.RawRestrict.{RawRestrict}
 use Rattle.wt_step.specs.declared.blocks.Block.{Block}
 use Rattle.wt_morphism.specs.declared.image.Image.{Image}
 use Rattle.wt_morphism.specs.declared.image.Image.TheVariants.{One as Single, Two as Double}
-use Rattle.wt_step.specs.Words.{is_marker, joined}
+use Rattle.wt_step.specs.Words.{is_marker, joined, ends_block}
 
 -- cell j of line i, or 0 outside
 abbrev pub cell_at : Grid → Axis → ℕ → ℕ → ℕ
@@ -66,7 +67,36 @@ coarse_at s p singles pairs blocks Two x y = block_tile s p singles pairs (block
 abbrev pub coarse_cell : RawStep → Grid → List ℕ → List ℕ → List Block → ℕ → ℕ → ℕ
 coarse_cell s p singles pairs blocks width k = coarse_at s p singles pairs blocks s.axis (k % width) (k / width)
 
+-- the width and the height of n lines of m cells each
+abbrev pub width_of : Axis → ℕ → ℕ → ℕ
+width_of One n m = n
+width_of Two n m = m
+
+abbrev pub height_of : Axis → ℕ → ℕ → ℕ
+height_of One n m = m
+height_of Two n m = n
+
 -- the coarse rectangle of these blocks, of m cells each along the other axis
 abbrev pub coarse_grid : RawStep → Grid → List ℕ → List ℕ → List Block → Axis → ℕ → Grid
-coarse_grid s p singles pairs blocks One m = grid_of (length blocks) m (coarse_at s p singles pairs blocks One)
-coarse_grid s p singles pairs blocks Two m = grid_of m (length blocks) (coarse_at s p singles pairs blocks Two)
+coarse_grid s p singles pairs blocks axis m = grid_of (width_of axis (length blocks) m) (height_of axis (length blocks) m) (coarse_at s p singles pairs blocks axis)
+
+-- how many lines a cut takes
+abbrev pub one_if : Bool → ℕ
+one_if true = 1
+one_if false = 0
+
+-- whether line i of the core ends a block
+abbrev pub ends_at : RawStep → Grid → ℕ → Bool
+ends_at s p i = ends_block s.side (is_marked_line s p i)
+
+-- the places of the first k kept tiles, by tile, for n tiles
+pub record IsPlaced (kept : List ℕ) (n k : ℕ) (places : List ℕ) : Type 0 where
+  pub size : length places ≡ n
+  pub at : (i a : ℕ) → i < k → slice_get kept i ≡ Some a → slice_index places a ≡ i
+
+-- the coarse tile of a restrict step at column x of row y
+abbrev pub kept_tile : RawRestrict → Grid → List ℕ → ℕ → ℕ → ℕ
+kept_tile s p places x y = slice_index places (cell_at p One (s.radius + x) (s.radius + y))
+
+abbrev pub kept_cell : RawRestrict → Grid → List ℕ → ℕ → ℕ → ℕ
+kept_cell s p places width k = kept_tile s p places (k % width) (k / width)

@@ -1,5 +1,5 @@
 -- What desubstitution answers for a step of either kind.
-use Rattle.std.specs.Prelude.{ℕ, ◌+◌, ◌-◌, Bool, false, ◌&&◌, not, nat_le, Option, Some, option_map, if◌then◌else◌, None}
+use Rattle.std.specs.Prelude.{ℕ, ◌-◌, Bool, false, ◌&&◌, not, nat_le, Option, Some, option_map, if◌then◌else◌, None}
 use Rattle.wt_tile.specs.Matching.{grid_axis}
 use Rattle.wt_grid.specs.First.{or_else}
 use Rattle.wt_grid.specs.Grid.{Grid, along, across, at}

@@ -4,5 +4,6 @@ pub mod Good
 pub mod Restrict
 pub mod Links
 pub mod Blocks
+pub mod Coarse
 pub mod Views
 pub mod Meaning

@@ -1,5 +1,5 @@
 -- The words in which the conditions on a step are said.
-use Rattle.std.specs.Prelude.{ℕ, ◌+◌, List, slice_index_or, Option, Bool, false, ◌&&◌, ◌||◌, not, nat_eq, nat_lt, nat_le, if◌then◌else◌}
+use Rattle.std.specs.Prelude.{ℕ, ◌+◌, List, slice_index_or, Option, Bool, false, ◌&&◌, not, nat_eq, nat_lt, nat_le, if◌then◌else◌}
 use Rattle.wt_tile.specs.declared.tile.Tile.{Tile}
 use Rattle.wt_tile.specs.declared.tile.Axis.{Axis}
 use Rattle.wt_tile.specs.declared.tile.Axis.TheVariants.{One, Two}

@@ -2,6 +2,7 @@
 ghost use Rattle.std.specs.Prelude.{◌≡◌, ◌≤◌, ◌<◌, ◌-◌, ◌&&◌, nat_lt, false, IfOk};
 ghost use Rattle.wt_tile.specs.Matching.{grid_axis};
 ghost use Rattle.wt_grid.specs.Grid.{along, across};
+ghost use Rattle.wt_pattern.specs.Shape.{IsShape};
 ghost use Rattle.wt_step.specs.Blocks.{cell_at as cell_of, core_at as core_of, is_marked_line as marks_line, pairs_at as pairs_of, blocks_in};
 
 use crate::RawStep;
@@ -20,6 +21,7 @@ pub struct Block {
 /// The lines of a pattern along an axis.
 pub fn count_lines(p: &Pattern, axis: Axis) -> usize
     ensures value { result ≡ along (grid_axis axis) p.now }
+    ensures shape { IsShape p.now }
     ensures some { 1 ≤ result }
     ensures small { result ≤ 4096 }
 {
@@ -42,7 +44,7 @@ pub fn count_across(p: &Pattern, axis: Axis) -> usize
 }
 
 /// Cell j of line i, or 0 outside.
-fn cell_at(p: &Pattern, axis: Axis, i: usize, j: usize) -> u16
+pub fn cell_at(p: &Pattern, axis: Axis, i: usize, j: usize) -> u16
     ensures { result ≡ cell_of p.now axis i j }
 {
     if i >= count_lines(p, axis) || j >= count_across(p, axis) {
@@ -64,7 +66,7 @@ pub fn core_at(raw: &RawStep, p: &Pattern, i: usize, j: usize) -> u16
     cell_at(p, raw.axis, radius + i, radius + j)
 }
 
-fn is_marked_line(raw: &RawStep, p: &Pattern, i: usize) -> bool
+pub fn is_marked_line(raw: &RawStep, p: &Pattern, i: usize) -> bool
     requires { i < 16777217 }
     ensures { result ≡ marks_line raw.now p.now i }
 {

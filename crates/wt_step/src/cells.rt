@@ -12,7 +12,7 @@ use wt_pattern::Pattern;
 use wt_tile::Axis;
 
 /// The number at a place of a list, or 0 outside.
-fn number_at(numbers: &[u16], i: usize) -> u16
+pub fn number_at(numbers: &[u16], i: usize) -> u16
     ensures { result ≡ slice_index numbers.now i }
 {
     if i < numbers.len() { numbers[i] } else { 0 }
@@ -49,14 +49,7 @@ fn block_tile(raw: &RawStep, p: &Pattern, index: &Index, block: Block, j: usize)
 }
 
 /// The coarse tile at column x of row y.
-fn coarse_at(
-    raw: &RawStep,
-    p: &Pattern,
-    index: &Index,
-    blocks: &[Block],
-    x: usize,
-    y: usize,
-) -> u16
+fn coarse_at(raw: &RawStep, p: &Pattern, index: &Index, blocks: &[Block], x: usize, y: usize) -> u16
     requires good { GoodStep raw.now }
     requires column { x < 16777217 }
     requires row { y < 16777217 }

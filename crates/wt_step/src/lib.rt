@@ -1,12 +1,17 @@
-//! Steps of desubstitution.
+//! Good steps: what makes a marker step or a restrict step good, with the first fault of one that is not; what each does to a
+//! valid rectangle, as laws; and `desubstitute`, which takes a pattern apart.
 #![tactic(auto)]
 
+mod apart;
 mod blocks;
 mod borrowed;
 mod cells;
+mod coarse;
 mod copy;
+mod desub;
 mod good;
 mod index;
+mod keep;
 mod law;
 mod link;
 mod order;
@@ -18,7 +23,9 @@ mod shape;
 mod step;
 
 pub use borrowed::{LinkRef, RestrictRef};
+pub use coarse::{Coarse, DesubFault};
 pub use copy::copy_link;
+pub use desub::desubstitute;
 pub use good::{Step, StepRef, accept_step};
 pub use law::{cores_are_plain, desubstitutes, good_restricts, good_steps, restricts};
 pub use link::{Link, accept_link, link_fault};

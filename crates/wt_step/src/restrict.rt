@@ -124,7 +124,7 @@ fn lost_fault(raw: &RawRestrict) -> Option<StepFault>
     None
 }
 
-fn kept_at(raw: &RawRestrict, i: u16) -> u16
+pub fn kept_at(raw: &RawRestrict, i: u16) -> u16
     ensures { result ≡ kept_of raw.now i }
 {
     let kept = raw.kept.as_slice();

@@ -1,5 +1,5 @@
 use Rattle.wt_step.specs.Blocks.{pairs_at, blocks_in}
-use Rattle.std.proofs.Common.{◌++◌, ◌-◌, false}
+use Rattle.std.proofs.Common.{◌-◌, false}
 use Rattle.wt_step.proofs.BlockLists.{step_inside, step_begin}
 use Rattle.wt_step.proofs.blocks.find_blocks.Goals.{then-inside, else-inside+in_ok-push}
 use Rattle.wt_step.proofs.blocks.find_blocks.Goals as goal

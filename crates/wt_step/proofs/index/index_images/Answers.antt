@@ -1,4 +1,4 @@
-use Rattle.std.proofs.Common.{◌≡◌, ◌<◌, length}
+use Rattle.std.proofs.Common.{◌<◌, length}
 use Rattle.wt_step.proofs.Indexed.{indexed_more}
 use Rattle.wt_step.proofs.index.index_images.Goals as goal
 
