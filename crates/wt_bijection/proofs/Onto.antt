@@ -60,3 +60,8 @@ onto xs below apart t lt = go (sought xs t)
         within : (k : ℕ) → k < length (t ∷ xs) → get_or (t ∷ xs) k 0 < length xs
         within zero l = lt
         within (suc k) l = below k (omega arith)
+
+-- numbers below a bound, no two of them equal, are at most so many
+pub few_apart : (n : ℕ) (xs : List ℕ) → ((k : ℕ) → k < length xs → get_or xs k 0 < n)
+    → ((i j : ℕ) → i < length xs → j < length xs → get_or xs i 0 ≡ get_or xs j 0 → i ≡ j) → length xs ≤ n
+few_apart n xs below apart = length-le_from_distinct_below xs n (distinct xs apart) (member_below n xs below)

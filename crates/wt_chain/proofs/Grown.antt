@@ -100,7 +100,7 @@ few_coarse link e = (few_tiles (coarse_of link) (coarse_good link e)).1
 
 -- One step.
 
-step_some : (along : Bool) (image : Image) (left : List Stage) → ((t : ℕ) → 1 ≤ width left t)
+pub step_some : (along : Bool) (image : Image) (left : List Stage) → ((t : ℕ) → 1 ≤ width left t)
     → 1 ≤ (if along then total (width left) (tiles_of image) else width left (first_of image))
 step_some true (Single a) left h = omega (arith, h a)
 step_some true (Double a b) left h = omega (arith, h a)
@@ -133,7 +133,7 @@ climb_is_table axis (link ∷ links) set rows left h table =
     let here : IsTable (length (fine_of link).tiles) rows left = rw h.1 table in
     climb_is_table axis links (coarse_of link) (next_table axis link rows) (stage axis link ∷ left) h.2 (next_is_table axis link rows left h.0 here)
 
-origin_below : (i : ℕ) (rs : List ℕ) (t m : ℕ) → 0 < m → i + length rs ≤ m → origin_from i rs t < m
+pub origin_below : (i : ℕ) (rs : List ℕ) (t m : ℕ) → 0 < m → i + length rs ≤ m → origin_from i rs t < m
 origin_below i [] t m some le = some
 origin_below i (r ∷ rs) t m some le = at_first (nat_eq r t) (origin_below (i + 1) rs t m some (omega arith))
   where
@@ -174,7 +174,7 @@ turns_are_table axis link links renaming (suc n) h e =
     (climb_is_table axis (link ∷ links) (fine_of link) (turns_table axis (link ∷ links) renaming n) (turns axis (link ∷ links) renaming n) h
     (turns_are_table axis link links renaming n h e))
 
-first_same : {A : Type 0} (f g : ℕ → Option A) (i n : ℕ) → ((k : ℕ) → i ≤ k → k < i + n → f k ≡ g k) → first_from f i n ≡ first_from g i n
+pub first_same : {A : Type 0} (f g : ℕ → Option A) (i n : ℕ) → ((k : ℕ) → i ≤ k → k < i + n → f k ≡ g k) → first_from f i n ≡ first_from g i n
 first_same f g i zero h = refl
 first_same f g i (suc n) h = rw (h i (omega arith) (omega arith)) (ap (or_else (g i)) (first_same f g (i + 1) n (λ k lo hi. h k (omega arith) (omega arith))))
 

@@ -1,5 +1,5 @@
 -- The first failing condition of a chain.
-use Rattle.std.specs.Prelude.{ℕ, ◌+◌, List, [], ◌∷◌, length, drop, Option, None, Some, Bool, ◌&&◌, option_map, nat_lt, if◌then◌else◌}
+use Rattle.std.specs.Prelude.{ℕ, ◌+◌, List, [], ◌∷◌, length, drop, Option, None, Some, Bool, ◌&&◌, option_map, is_none, nat_lt, if◌then◌else◌}
 use Rattle.wt_tile.specs.declared.tile.TileList.{TileList}
 use Rattle.wt_grid.specs.First.{or_else, first_from}
 use Rattle.wt_bijection.specs.Renaming.{renaming_fault}
@@ -43,6 +43,14 @@ growth_fault_at loop renaming expansion t = unless (has_grown loop renaming expa
 -- the first of n tiles whose image doesn't grow
 abbrev pub growth_fault : List RawLink → List ℕ → ℕ → ℕ → Option Refusal
 growth_fault loop renaming expansion n = first_from (growth_fault_at loop renaming expansion) 0 n
+
+-- one turn more than these, where after them the images of n tiles have grown
+abbrev pub enough : List RawLink → List ℕ → ℕ → ℕ → Option ℕ
+enough loop renaming n turns = if is_none (growth_fault loop renaming (turns + 1) n) then Some (turns + 1) else None
+
+-- the least number of turns, from 1 to the number n of tiles, after which their images have grown
+abbrev pub least_expansion : List RawLink → List ℕ → ℕ → Option ℕ
+least_expansion loop renaming n = first_from (enough loop renaming n) 0 n
 
 -- the same, as the tables of both axes tell it
 abbrev pub small_at : List Bool → List Bool → ℕ → Option Refusal

@@ -3,3 +3,6 @@ pub mod Sets
 pub mod Growth
 pub mod Tables
 pub mod Faults
+pub mod Chains
+pub mod Good
+pub mod Turns

@@ -1,5 +1,5 @@
 -- The tile sets between steps.
-use Rattle.std.specs.Prelude.{◌≡◌, ℕ, List, length, [], ◌∷◌, Bool, true, ◌&&◌, Option, None, Some}
+use Rattle.std.specs.Prelude.{◌≡◌, ℕ, ◌-◌, nat_lt, if◌then◌else◌, List, length, slice_get, [], ◌∷◌, Bool, true, ◌&&◌, Option, None, Some, option_map}
 use Rattle.std.specs.Cmp.Lexicographic.{pointwise}
 use Rattle.std.specs.Str.{bytes_eq}
 use Rattle.wt_tile.specs.declared.tile.TileList.{TileList}
@@ -12,10 +12,14 @@ use Rattle.wt_step.specs.Links.{link_fault, fine_of, coarse_of}
 abbrev pub same_set : TileList → TileList → Bool
 same_set a b = pointwise same_tile a.tiles b.tiles && pointwise bytes_eq a.names1 b.names1 && pointwise bytes_eq a.names2 b.names2
 
+-- a set is that before it, where there is one
+abbrev pub follows : Option TileList → TileList → Bool
+follows None set = true
+follows (Some before) set = same_set before set
+
 -- the step takes apart the set before it, where there is one
 abbrev pub comes_next : Option TileList → RawLink → Bool
-comes_next None link = true
-comes_next (Some set) link = same_set set (fine_of link)
+comes_next before link = follows before (fine_of link)
 
 -- the set behind these steps; the set before them where there is none
 abbrev pub last_set : TileList → List RawLink → TileList
@@ -42,3 +46,17 @@ abbrev pub Closes : List RawLink → List ℕ → Type 0
 Closes [] renaming = ⊥
 Closes (link ∷ links) renaming =
     AreLinked (fine_of link) (link ∷ links) × (renaming_fault (last_set (coarse_of link) links).tiles (fine_of link).tiles renaming ≡ None)
+
+-- the set of a level: the fine set of the step with this number, and behind the last step its coarse set
+abbrev pub set_at : List RawLink → ℕ → Option TileList
+set_at links level = if nat_lt level (length links) then option_map fine_of (slice_get links level) else option_map coarse_of (slice_get links (level - 1))
+
+-- the set behind the last step, where there is one
+abbrev pub behind : List RawLink → Option TileList
+behind [] = None
+behind (link ∷ links) = Some (last_set (coarse_of link) links)
+
+-- there is a step, and the renaming leads from the last set to the first
+abbrev pub IsRenamed : List RawLink → List ℕ → Type 0
+IsRenamed [] renaming = ⊥
+IsRenamed (link ∷ links) renaming = renaming_fault (last_set (coarse_of link) links).tiles (fine_of link).tiles renaming ≡ None

@@ -36,3 +36,8 @@ version_fits Two links = true
 -- the version of a chain that is put together: one while all its steps allow it
 abbrev pub version_of : List RawLink → Version
 version_of links = if all_of is_first_version links then One else Two
+
+-- that of a chain with one step more
+abbrev pub one_more : Version → RawLink → Version
+one_more One link = if is_first_version link then One else Two
+one_more Two link = Two

@@ -1,11 +1,11 @@
 // The first failing condition of a chain.
 ghost use Rattle.std.specs.Prelude.{◌≡◌, ◌∷◌, drop, None, Some, option_map};
 ghost use Rattle.wt_step.specs.Links.{fine_of};
-ghost use Rattle.wt_chain.specs.Sets.{AreLinked, IsRun, last_set as set_behind};
-ghost use Rattle.wt_chain.specs.Faults.{size_fault as first_size, step_fault_at as fault_of_step, steps_fault as first_step, loop_fault as first_loop, end_fault as first_end, chain_fault as first_fault};
+ghost use Rattle.wt_chain.specs.Sets.{AreLinked, IsRun, Closes, first_count};
+ghost use Rattle.wt_chain.specs.Faults.{size_fault as first_size, step_fault_at as fault_of_step, steps_fault as first_step, loop_fault as first_loop, end_fault as first_end, chain_fault as first_fault, least_expansion as least};
 
-use crate::growth::growth_fault;
-use crate::sets::{coarse_set, comes_next, fine_set};
+use crate::growth::{growth_fault, least_expansion};
+use crate::sets::{coarse_set, fine_set, follows, last_set};
 use crate::version::version_fits;
 use crate::{End, RawChain, Refusal};
 use wt_bijection::check_renaming;
@@ -35,7 +35,7 @@ fn step_fault_at(k: usize, before: Option<&TileList>, link: &RawLink) -> Option<
     if let Some(fault) = link_fault(link) {
         return Some(Refusal::Step { step: k, fault });
     }
-    if comes_next(before, link) {
+    if follows(before, fine_set(link)) {
         None
     } else {
         Some(Refusal::NotNext { step: k })
@@ -53,16 +53,6 @@ fn steps_fault(links: &[RawLink]) -> Option<Refusal>
         before = Some(coarse_set(link));
     }
     None
-}
-
-fn last_set<'a>(first: &'a TileList, links: &'a [RawLink]) -> &'a TileList
-    ensures { result.now ≡ set_behind first.now links.now }
-{
-    let mut set = first;
-    for link in links {
-        set = coarse_set(link);
-    }
-    set
 }
 
 /// The first fault of a renaming from the last set to the first, and of the growth of images.
@@ -86,7 +76,7 @@ fn closing_fault(
 }
 
 /// The first fault of a loop of good steps, of which each takes apart the set before it.
-fn loop_fault(links: &[RawLink], renaming: &[u16], turns: u32) -> Option<Refusal>
+pub fn loop_fault(links: &[RawLink], renaming: &[u16], turns: u32) -> Option<Refusal>
     requires { IsRun links.now }
     ensures { result ≡ first_loop links.now renaming.now turns }
 {
@@ -96,7 +86,33 @@ fn loop_fault(links: &[RawLink], renaming: &[u16], turns: u32) -> Option<Refusal
     }
 }
 
-fn steps_from(links: &[RawLink], start: u16) -> &[RawLink]
+/// The least expansion of a loop whose steps are good and whose renaming has no fault.
+pub fn loop_expansion(links: &[RawLink], renaming: &[u16]) -> Option<u32>
+    requires { Closes links.now renaming.now }
+    ensures { result ≡ least links.now renaming.now (first_count links.now) }
+{
+    match links {
+        [] => None,
+        [first, others @ ..] => closed_expansion(links, first, others, renaming),
+    }
+}
+
+fn closed_expansion(
+    links: &[RawLink],
+    first: &RawLink,
+    others: &[RawLink],
+    renaming: &[u16],
+) -> Option<u32>
+    requires whole { links.now ≡ first.now ∷ others.now }
+    requires closed { Closes (first.now ∷ others.now) renaming.now }
+    ensures { result ≡ least (first.now ∷ others.now) renaming.now (first_count (first.now ∷ others.now)) }
+{
+    let set = SetRef::of(fine_set(first));
+    least_expansion(links, renaming, set.tiles().len() as u16)
+}
+
+/// The steps from one on.
+pub fn steps_from(links: &[RawLink], start: u16) -> &[RawLink]
     ensures { result.now ≡ drop start links.now }
 {
     let start = usize::from(start);

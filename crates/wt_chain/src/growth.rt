@@ -1,8 +1,9 @@
 // How large the images of tiles grow in a loop: tables that say for each tile whether its image is at least two long.
-ghost use Rattle.std.specs.Prelude.{◌≡◌, ◌<◌, ◌≤◌, length, false, slice_index};
+ghost use Rattle.std.specs.Prelude.{◌≡◌, ◌+◌, ◌<◌, ◌≤◌, length, false, slice_index};
 ghost use Rattle.wt_chain.specs.Growth.{image_of as link_image, is_along as lies_along, origin as origin_of};
+ghost use Rattle.wt_tile.specs.declared.tile.Axis.TheVariants.{One, Two};
 ghost use Rattle.wt_chain.specs.Sets.{Closes, first_count};
-ghost use Rattle.wt_chain.specs.Faults.{small_at as fault_of, first_small as first_fault, growth_fault as first_growth};
+ghost use Rattle.wt_chain.specs.Faults.{small_at as fault_of, first_small as first_fault, growth_fault as first_growth, enough as next_enough, least_expansion as least};
 ghost use Rattle.wt_chain.specs.Tables.{table as table_of, entry as table_entry, grows as grows_at, next_table as next_of, climb as climbed, renamed_table, turns_table};
 
 use crate::Refusal;
@@ -160,14 +161,89 @@ fn first_small(wide: &[bool; 256], high: &[bool; 256], count: u16) -> Option<Ref
     None
 }
 
-/// The first tile of the loop's first set whose image after so many turns isn't at least two wide and two high. The steps are good, each takes apart the set before it, and the renaming has no fault.
+/// The first tile of the loop's first set whose image after so many turns isn't at least two wide and two high. The steps are good, each takes apart the set before it, and the renaming has no fault; more than 256 turns tell no more than 256.
 pub fn growth_fault(links: &[RawLink], renaming: &[u16], turns: u32, count: u16) -> Option<Refusal>
     requires closed { Closes links.now renaming.now }
     requires counted { count ≡ first_count links.now }
     requires few { length renaming.now ≤ 256 }
     ensures { result ≡ first_growth links.now renaming.now turns count }
 {
-    let wide = turned(Axis::One, links, renaming, turns);
-    let high = turned(Axis::Two, links, renaming, turns);
-    first_small(&wide, &high, count)
+    let few = turns.min(256);
+    let wide = turned(Axis::One, links, renaming, few);
+    let high = turned(Axis::Two, links, renaming, few);
+    fault_after(links, renaming, few, &wide, &high, count)
+}
+
+fn next_turn(
+    axis: Axis,
+    links: &[RawLink],
+    renaming: &[u16],
+    origins: &[u16; 256],
+    rows: &[bool; 256],
+) -> [bool; 256]
+    requires { origins.now ≡ table_of (origin_of renaming.now) }
+    ensures { result ≡ renamed_table renaming.now (climbed axis links.now rows.now) }
+{
+    renamed(renaming, origins, &climb(axis, links, rows))
+}
+
+/// The same, as the tables after so many turns tell it.
+fn fault_after(
+    links: &[RawLink],
+    renaming: &[u16],
+    turns: u32,
+    wide: &[bool; 256],
+    high: &[bool; 256],
+    count: u16,
+) -> Option<Refusal>
+    requires closed { Closes links.now renaming.now }
+    requires counted { count ≡ first_count links.now }
+    requires widths { wide.now ≡ turns_table One links.now renaming.now turns }
+    requires heights { high.now ≡ turns_table Two links.now renaming.now turns }
+    ensures { result ≡ first_growth links.now renaming.now turns count }
+{
+    first_small(wide, high, count)
+}
+
+/// One turn more than these, where their tables show that images have grown.
+fn enough_after(
+    links: &[RawLink],
+    renaming: &[u16],
+    turn: u16,
+    wide: &[bool; 256],
+    high: &[bool; 256],
+    count: u16,
+) -> Option<u32>
+    requires closed { Closes links.now renaming.now }
+    requires counted { count ≡ first_count links.now }
+    requires widths { wide.now ≡ turns_table One links.now renaming.now (turn + 1) }
+    requires heights { high.now ≡ turns_table Two links.now renaming.now (turn + 1) }
+    ensures { result ≡ next_enough links.now renaming.now count turn }
+{
+    let turns = u32::from(turn) + 1;
+    match fault_after(links, renaming, turns, wide, high, count) {
+        None => Some(turns),
+        Some(_) => None,
+    }
+}
+
+/// The least number of turns, at most the number of tiles of the loop's first set, that makes the image of each tile there at least two wide and two high.
+#[tactic(auto, using(wt_grid::proofs::First::first_more))]
+pub fn least_expansion(links: &[RawLink], renaming: &[u16], count: u16) -> Option<u32>
+    requires closed { Closes links.now renaming.now }
+    requires counted { count ≡ first_count links.now }
+    requires few { length renaming.now ≤ 256 }
+    ensures { result ≡ least links.now renaming.now count }
+{
+    let origins = origins(renaming);
+    let mut wide = [false; 256];
+    let mut high = [false; 256];
+    for turn in 0..count {
+        wide = next_turn(Axis::One, links, renaming, &origins, &wide);
+        high = next_turn(Axis::Two, links, renaming, &origins, &high);
+        if let Some(turns) = enough_after(links, renaming, turn, &wide, &high, count) {
+            return Some(turns);
+        }
+    }
+    None
 }

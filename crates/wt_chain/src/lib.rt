@@ -2,13 +2,22 @@
 #![tactic(auto)]
 
 mod accepted;
+mod chain;
+mod copy;
 mod faults;
 mod growth;
+mod laws;
+mod push;
 mod raw;
 mod sets;
+#[cfg(test)]
+mod tests;
 mod version;
 
-pub use accepted::Accepted;
+pub use accepted::{Accepted, upgrade};
+pub use chain::Chain;
 pub use faults::chain_fault;
+pub use laws::good_chains;
+pub use push::PushFault;
 pub use raw::{End, RawChain, Refusal, Version};
 pub use sets::{coarse_set, fine_set, same_set};

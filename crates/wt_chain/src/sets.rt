@@ -3,7 +3,7 @@ ghost use Rattle.std.specs.Prelude.{◌≡◌, ◌∷◌, option_map};
 ghost use Rattle.std.specs.Cmp.Lexicographic.{pointwise};
 ghost use Rattle.std.specs.Str.{bytes_eq};
 ghost use Rattle.wt_step.specs.Links.{fine_of, coarse_of};
-ghost use Rattle.wt_chain.specs.Sets.{same_set as sets_agree, comes_next as follows};
+ghost use Rattle.wt_chain.specs.Sets.{same_set as sets_agree, follows as set_follows, last_set as set_behind, behind};
 
 use wt_step::RawLink;
 use wt_tile::{Name, TileList};
@@ -55,12 +55,33 @@ pub fn same_set(a: &TileList, b: &TileList) -> bool
         && same_names(a.names2.as_slice(), b.names2.as_slice())
 }
 
-/// Whether the step takes apart the set before it, where there is one.
-pub fn comes_next(before: Option<&TileList>, link: &RawLink) -> bool
-    ensures { result ≡ follows (option_map (λ set. set.now) before.entry) link.now }
+/// Whether a set is that before it, where there is one.
+pub fn follows(before: Option<&TileList>, set: &TileList) -> bool
+    ensures { result ≡ set_follows (option_map (λ set. set.now) before.entry) set.now }
 {
     match before {
         None => true,
-        Some(set) => same_set(set, fine_set(link)),
+        Some(before) => same_set(before, set),
+    }
+}
+
+/// The set behind these steps; the first one where there is none.
+pub fn last_set<'a>(first: &'a TileList, links: &'a [RawLink]) -> &'a TileList
+    ensures { result.now ≡ set_behind first.now links.now }
+{
+    let mut set = first;
+    for link in links {
+        set = coarse_set(link);
+    }
+    set
+}
+
+/// The set behind the last step, where there is one.
+pub fn set_behind_all(links: &[RawLink]) -> Option<&TileList>
+    ensures { option_map (λ set. set.now) result ≡ behind links.now }
+{
+    match links {
+        [] => None,
+        [first, others @ ..] => Some(last_set(coarse_set(first), others)),
     }
 }

@@ -4,6 +4,8 @@
 mod accepted;
 mod checked;
 mod refusal;
+#[cfg(test)]
+mod tests;
 
 pub use accepted::report;
 pub use checked::check;
