@@ -1,17 +1,23 @@
 // What tiles stand for along an axis.
+
 use wt_seq::Seq;
 use wt_tile::Axis;
 
 /// What a tile stands for: one tile, or two, the second behind the first along the axis.
 #[derive(Clone, Copy, Debug, PartialEq, Eq)]
 pub enum Image {
+    /// This tile alone.
     One(u16),
+    /// The first tile, and the second behind it.
     Two(u16, u16),
 }
 
-/// The images of the tiles 0, 1, .. along an axis.
+/// The images of the tiles 0, 1, .. along an axis: a substitution that gives each tile one or two
+/// (Labbé, "Substitutive structure of Jeandel-Rao aperiodic tilings").
 #[derive(Drop)]
 pub struct Morphism {
+    /// The axis along which images are laid.
     pub axis: Axis,
+    /// The image of tile i at place i.
     pub table: Seq<Image>,
 }

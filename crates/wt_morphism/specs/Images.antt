@@ -1,0 +1,84 @@
+-- Images of patterns, and why a pattern has none.
+use Rattle.std.specs.Prelude.{◌≡◌, ℕ, ◌+◌, Bool, true, false, ◌||◌, nat_lt, List, [], ◌∷◌, map, slice_index_or, Option, None, Some, if◌then◌else◌}
+use Rattle.std.specs.Option.{option_map}
+use Rattle.wt_tile.specs.declared.tile.Axis.{Axis}
+use Rattle.wt_tile.specs.declared.tile.Axis.TheVariants.{One, Two}
+use Rattle.wt_tile.specs.Matching.{grid_axis}
+use Rattle.wt_grid.specs.First.{or_else, first_from}
+use Rattle.wt_grid.specs.Order.{agree}
+use Rattle.wt_grid.specs.Lines.{Piece, one, two}
+use Rattle.wt_grid.specs.Grid.{Grid, cell}
+use Rattle.wt_grid.specs.Images.{is_pair, image_grid}
+use Rattle.wt_morphism.specs.declared.image.Image.{Image}
+use Rattle.wt_morphism.specs.declared.image.Image.TheVariants.{One as Single, Two as Double}
+use Rattle.wt_morphism.specs.declared.image.Morphism.{Morphism}
+use Rattle.wt_morphism.specs.declared.fault.ApplyFault.{ApplyFault}
+use Rattle.wt_morphism.specs.declared.fault.ApplyFault.TheVariants.{Uneven, TooLarge, OutOfMemory}
+use Rattle.wt_morphism.specs.declared.fault.CutFault.{CutFault}
+use Rattle.wt_morphism.specs.declared.fault.CutFault.TheVariants as cut
+
+-- what a tile stands for, as one number or two
+abbrev pub piece : Image → Piece
+piece (Single a) = one a
+piece (Double a b) = two a b
+
+abbrev pub pieces : Morphism → List Piece
+pieces m = map piece m.table
+
+-- the rectangle that p stands for, where each line of p is even
+abbrev pub image : Morphism → Grid → Grid
+image m p = image_grid (grid_axis m.axis) (pieces m) p
+
+-- the image of a tile; a number past the table counts as one that stands for tile 0
+abbrev pub image_at : List Image → ℕ → Image
+image_at table tile = slice_index_or table tile (Single 0)
+
+-- the tile stands for two
+abbrev pub is_two : Morphism → ℕ → Bool
+is_two m tile = is_pair (piece (image_at m.table tile))
+
+-- the first cell of the line that cell (x, y) stands in: of its column for axis 1, of its row for axis 2
+abbrev pub line_start : Axis → Grid → ℕ → ℕ → ℕ
+line_start One p x y = cell p x 0
+line_start Two p x y = cell p 0 y
+
+-- cell (x, y), where its image is longer or shorter than that of the first cell of its line
+abbrev pub uneven_at : Morphism → Grid → ℕ → ℕ → Option (ℕ × ℕ)
+uneven_at m p y x = if agree (is_two m (cell p x y)) (is_two m (line_start m.axis p x y)) then None else Some (x, y)
+
+abbrev pub uneven_in : Morphism → Grid → ℕ → Option (ℕ × ℕ)
+uneven_in m p y = first_from (uneven_at m p y) 0 p.width
+
+-- the first such cell in reading order
+unfoldable pub uneven : Morphism → Grid → Option (ℕ × ℕ)
+uneven m p = first_from (uneven_in m p) 0 p.height
+
+-- the rectangle is wider or higher than a pattern may be
+abbrev pub is_too_large : Grid → Bool
+is_too_large g = nat_lt 4096 g.width || nat_lt 4096 g.height
+
+-- why p has no image within the limits of a pattern
+abbrev pub apply_fault : Morphism → Grid → Option ApplyFault
+apply_fault m p =
+    or_else (option_map (λ at. Uneven at.0 at.1) (uneven m p))
+    (if is_too_large (image m p) then Some TooLarge else None)
+
+-- the refusal that comes, where there is a cause, and else want of memory
+abbrev pub IsRefusal : Option ApplyFault → ApplyFault → Type 0
+IsRefusal None e = e ≡ OutOfMemory
+IsRefusal (Some cause) e = e ≡ cause
+
+-- the same for parts of images
+abbrev pub IsCutRefusal : Option (ℕ × ℕ) → CutFault → Type 0
+IsCutRefusal None e = e ≡ cut.OutOfMemory
+IsCutRefusal (Some at) e = e ≡ cut.Uneven at.0 at.1
+
+-- the image by each in turn, the first of the list first
+abbrev pub image_by_all : List Morphism → Grid → Grid
+image_by_all [] p = p
+image_by_all (m ∷ ms) p = image_by_all ms (image m p)
+
+-- the first refusal that is met
+abbrev pub apply_all_fault : List Morphism → Grid → Option ApplyFault
+apply_all_fault [] p = None
+apply_all_fault (m ∷ ms) p = or_else (apply_fault m p) (apply_all_fault ms (image m p))

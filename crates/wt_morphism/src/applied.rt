@@ -1,0 +1,92 @@
+// Images of patterns, whole or in part.
+ghost use Rattle.std.specs.Prelude.{◌≡◌, ◌⊎◌, ◌≤◌, min, None, Some, IfOk, MatchResult};
+ghost use Rattle.wt_grid.specs.Parts.{part};
+ghost use Rattle.wt_morphism.specs.Images.{image, uneven as first_uneven, apply_fault as why_not, IsRefusal, IsCutRefusal, image_by_all, apply_all_fault as first_refusal};
+
+use crate::even::uneven;
+use crate::laid::{image_shape, lay};
+use crate::{ApplyFault, CutFault, Morphism};
+use std::alloc::{AllocError, Global};
+use wt_pattern::Pattern;
+
+const MAX_SIDE: usize = 4096;
+
+/// The image of a pattern: the pieces of each cell's image stand along the axis in order. `Uneven` names the
+/// first cell in reading order whose image is longer or shorter than that of the first cell of its line;
+/// `TooLarge` comes exactly where all are even and the image is over 4096 wide or high. A number past the
+/// table counts as one that stands for tile 0.
+pub fn apply(alloc: Global, m: &Morphism, p: &Pattern) -> Result<Pattern, ApplyFault>
+    ensures image { IfOk result (λ q. q ≡ image m.now p.now) }
+    ensures fault { MatchResult result (λ q. why_not m.now p.now ≡ None) (λ e. IsRefusal (why_not m.now p.now) e) }
+{
+    if let Some((x, y)) = uneven(m, p) {
+        return Err(ApplyFault::Uneven { x, y });
+    }
+    let (width, height) = image_shape(m, p);
+    if width > MAX_SIDE || height > MAX_SIDE {
+        return Err(ApplyFault::TooLarge);
+    }
+    match lay(alloc, m, p, width, height) {
+        Ok(cells) => Ok(Pattern::of(width, height, cells)),
+        Err(_) => Err(ApplyFault::OutOfMemory),
+    }
+}
+
+/// The lower left part of the image of a pattern: the lesser of w and its width by the lesser of h and its
+/// height. Makes no more of the image than this part. `Uneven` as in `apply`, of the whole pattern.
+pub fn apply_part(
+    alloc: Global,
+    m: &Morphism,
+    p: &Pattern,
+    w: usize,
+    h: usize,
+) -> Result<Pattern, CutFault>
+    requires wide { (1 ≤ w) × (w ≤ 4096) }
+    requires high { (1 ≤ h) × (h ≤ 4096) }
+    ensures part { IfOk result (λ q. q ≡ part (image m.now p.now) 0 0 (min w (image m.now p.now).width) (min h (image m.now p.now).height)) }
+    ensures even { MatchResult result (λ q. first_uneven m.now p.now ≡ None) (λ e. IsCutRefusal (first_uneven m.now p.now) e) }
+{
+    if let Some((x, y)) = uneven(m, p) {
+        return Err(CutFault::Uneven { x, y });
+    }
+    let (width, height) = image_shape(m, p);
+    let width = w.min(width);
+    let height = h.min(height);
+    match lay(alloc, m, p, width, height) {
+        Ok(cells) => Ok(Pattern::of(width, height, cells)),
+        Err(_) => Err(CutFault::OutOfMemory),
+    }
+}
+
+fn copy_pattern(alloc: Global, p: &Pattern) -> Result<Pattern, AllocError>
+    ensures { IfOk result (λ q. q ≡ p.now) }
+{
+    let height = p.height();
+    let width = p.width();
+    let mut cells = Vec::with_capacity(alloc, width * height)?;
+    for y in 0..height {
+        cells.extend_from_slice(p.row(y))?;
+    }
+    Ok(Pattern::of(width, height, cells))
+}
+
+/// The image by each of the morphisms in turn, the first of the list first; the first refusal that is met.
+/// The image by none is the pattern itself.
+pub fn apply_all(alloc: Global, parts: &[Morphism], p: &Pattern) -> Result<Pattern, ApplyFault>
+    ensures image { IfOk result (λ q. q ≡ image_by_all parts.now p.now) }
+    ensures fault { MatchResult result
+        (λ q. first_refusal parts.now p.now ≡ None)
+        (λ e. (first_refusal parts.now p.now ≡ Some e) ⊎ (e ≡ ApplyFault.OutOfMemory)) }
+{
+    let [first, rest @ ..] = parts else {
+        return match copy_pattern(alloc, p) {
+            Ok(copy) => Ok(copy),
+            Err(_) => Err(ApplyFault::OutOfMemory),
+        };
+    };
+    let mut image = apply(alloc, first, p)?;
+    for m in rest {
+        image = apply(alloc, m, &image)?;
+    }
+    Ok(image)
+}
