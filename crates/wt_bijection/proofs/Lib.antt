@@ -1,2 +1,5 @@
 pub mod All
 pub mod Lengths
+pub mod Onto
+pub mod Colours
+pub mod Carried

@@ -1,5 +1,11 @@
 pub mod Grown
+pub mod Images
+pub mod Lines
+pub mod Literals
+pub mod NumberLists
+pub mod ReadRows
 pub mod Standing
+pub mod States
 pub mod Growing
 pub mod TreeForms
 pub mod TreesFound

@@ -9,7 +9,11 @@ use Rattle.wt_refute.specs.declared.tree.Tree.TheOpen as open'
 use Rattle.wt_refute.specs.declared.tree.Child.{Child, roll-Child}
 use Rattle.wt_refute.specs.Refutation.{Refutation, Branches, branch, cite, no_more, more}
 use Rattle.wt_refute.specs.View.{refutation, child_view, branches_of, tree_step, child_step}
+use Rattle.wt_refute.specs.declared.tree.Refuted.{Refuted}
+use Rattle.wt_step.specs.declared.raw.Lost.{Lost}
 use Rattle.wt_cert.specs.Values.{tree_of, children_of}
+use Rattle.wt_cert.specs.Parts.{to_refuted, to_lost}
+use Rattle.wt_cert.specs.Seen.{refuted_view, lost_view}
 use Rattle.wt_cert.proofs.Grown.{refutation_branch, child_of}
 
 refutation_cite : (cell : ℕ) (axis : Axis) → refutation (Cite cell axis) ≡ cite cell axis
@@ -45,3 +49,16 @@ mutual
   children_again : (n : _) (row : Row_of-Child n) → children_of (branches_of (map child_view (items-the_row-Child n row))) ≡ items-the_row-Child n row
   children_again n end_of-Child = refl
   children_again n (more_of-Child tile tree rest) = rw (child_of tile tree, tree_of_refutation tree, children_again _ rest) refl
+
+abbrev refuted_with : Refuted → Tree → Refuted
+refuted_with r t = record { axis = r.axis; a = r.a; b = r.b; radius = r.radius; tree = t }
+
+abbrev lost_with : Lost → Tree → Lost
+lost_with x t = record { tile = x.tile; tree = t }
+
+-- a refutation of a domino, read back from what it stands for
+pub refuted_again : (r : Refuted) → to_refuted (refuted_view r) ≡ r
+refuted_again r = ap (refuted_with r) (tree_of_refutation r.tree)
+
+pub lost_again : (x : Lost) → to_lost (lost_view x) ≡ x
+lost_again x = ap (lost_with x) (tree_of_refutation x.tree)

@@ -51,6 +51,7 @@ whole_form citing (suc levels) nodes (branch cell branches) fits =
     (ap (λ (m : ℕ). is_forest citing m (branches_spelling branches)) (sym z) ∙ ap (λ (l : List (List ℕ)). is_forest citing (0 + branch_count branches) l) (sym (append_nil (branches_spelling branches))) ∙ forest_form citing levels (nodes + 1) 0 branches [] fits.3)
 
 pub tree_last : (citing : Bool) (nodes : ℕ) → IsLast (tree_to_end citing nodes) tree_spelling (TreeFits citing 90 nodes)
+unfolding tree_to_end
 tree_last citing nodes = record {
   found = λ ts x rest e.
       let p = if_some (is_tree citing ts) _ (Ok x, rest) e in

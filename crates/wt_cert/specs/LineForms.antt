@@ -107,10 +107,13 @@ lost_form nodes = whole (both small (tree_to_end true nodes))
 abbrev pub image_of : ℕ × ℕ → Image
 image_of x = images.Two x.0 x.1
 
+-- what may stand behind the first tile: nothing, or a second tile
+abbrev pub image_behind : Result ℕ What → List (List ℕ) → Option (Result Image What × List (List ℕ))
+image_behind u [] = Some (mapped images.One u, [])
+image_behind u (t ∷ ts) = small (t ∷ ts) >>= λ v. Some (mapped image_of (pair u v.0), v.1)
+
 abbrev pub image : List (List ℕ) → Option (Result Image What × List (List ℕ))
-image [] = None
-image (t ∷ []) = seen_value images.One (small (t ∷ []))
-image (t ∷ s ∷ ts) = seen_value image_of (both small small (t ∷ s ∷ ts))
+image ts = small ts >>= λ u. image_behind u.0 u.1
 
 unfoldable pub image_form : List (List ℕ) → Result Image (LineFault What)
 image_form = whole image

@@ -1,8 +1,25 @@
 -- How values of the code stand for what is read.
-use Rattle.std.specs.Prelude.{ℕ, List, [], ◌∷◌}
+use Rattle.std.specs.Prelude.{ℕ, List, [], ◌∷◌, ◌++◌, Result, Ok, Err}
+use Rattle.wt_line.specs.declared.places.Place.{Place}
+use Rattle.wt_text.specs.Lines.{Line, lines}
+use Rattle.wt_tile.specs.declared.tile.Axis.{Axis}
+use Rattle.wt_tile.specs.declared.tile.Side.{Side}
 use Rattle.wt_refute.specs.Refutation.{Refutation, Branches, more}
+use Rattle.wt_refute.specs.View.{refutation}
+use Rattle.wt_refute.specs.declared.tree.Refuted.{Refuted}
+use Rattle.wt_step.specs.declared.raw.Lost.{Lost}
+use Rattle.wt_line.specs.declared.faults.What.{What}
+use Rattle.wt_step.specs.declared.raw.RawLink.{RawLink}
+use Rattle.wt_chain.specs.declared.raw.Version.{Version}
+use Rattle.wt_text.specs.Readers.{TextFault, Either, first, second}
+use Rattle.wt_cert.specs.Parts.{link_part}
 use Rattle.wt_cert.specs.declared.build.Ending.{Ending}
 use Rattle.wt_cert.specs.declared.build.Ending.TheVariants.{Children, Cites}
+use Rattle.wt_cert.specs.declared.heads.Head as heads
+use Rattle.wt_cert.specs.declared.heads.Head.TheVariants.{Marker, Restrict}
+use Rattle.wt_cert.specs.declared.heads.EndLine.{EndLine}
+use Rattle.wt_cert.specs.declared.heads.EndLine.TheVariants.{Open, Loop}
+use Rattle.wt_cert.specs.LineForms.{Head}
 use Rattle.wt_cert.specs.Trees as trees
 
 abbrev pub ending_view : Ending → trees.Ending
@@ -13,3 +30,31 @@ ending_view (Cites axis) = trees.cites axis
 abbrev pub led_by : List (ℕ × Refutation) → Branches → Branches
 led_by [] b = b
 led_by (x ∷ xs) b = more x.0 x.1 (led_by xs b)
+
+abbrev pub head_view : heads.Head → Head
+head_view (Marker axis side radius) = first (axis, (side, radius))
+head_view (Restrict radius) = second radius
+
+abbrev pub end_view : EndLine → Either (Unit {0}) (ℕ × ℕ)
+end_view Open = first tt
+end_view (Loop start expansion) = second (start, expansion)
+
+abbrev pub refuted_view : Refuted → Axis × (ℕ × (ℕ × (ℕ × Refutation)))
+refuted_view r = (r.axis, (r.a, (r.b, (r.radius, refutation r.tree))))
+
+abbrev pub lost_view : Lost → ℕ × Refutation
+lost_view x = (x.tile, refutation x.tree)
+
+-- one number more, where no number so far is past its limit
+abbrev pub with_number : {W : Type 0} → Result (List ℕ) W → Result ℕ W → Result (List ℕ) W
+with_number (Ok ns) (Ok n) = Ok (ns ++ n ∷ [])
+with_number (Ok ns) (Err w) = Err w
+with_number (Err w) r = Err w
+
+-- the number of the next line, and the lines that are left
+abbrev pub at : Place → ℕ × List Line
+at p = (p.number, lines p.bytes.now)
+
+-- the reader of the block of the step that a state gives
+abbrev pub link_at_step : Version → ℕ × ℕ → ℕ × List Line → Result (RawLink × (ℕ × List Line)) (TextFault What)
+link_at_step version s = link_part version s.0 s.1

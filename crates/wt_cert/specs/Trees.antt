@@ -106,7 +106,7 @@ found_tree (Err (past what)) = Some (Err what, [])
 found_tree (Err wrong) = None
 
 -- a tree to the end of the line: its form first, and then its limits, where a tree has at most 90 levels and so many nodes came before
-abbrev pub tree_to_end : Bool → ℕ → List (List ℕ) → Option (Result Refutation What × List (List ℕ))
+unfoldable pub tree_to_end : Bool → ℕ → List (List ℕ) → Option (Result Refutation What × List (List ℕ))
 tree_to_end citing nodes ts = if is_tree citing ts then found_tree (tree_in citing 90 nodes ts) else None
 
 -- trees within the limits: at most so many levels, and at most 1,048,576 nodes with those that came before

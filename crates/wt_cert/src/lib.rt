@@ -2,7 +2,12 @@
 #![tactic(auto)]
 
 mod build;
+mod cert;
 mod forms;
+mod heads;
+mod lists;
+mod numbers;
+mod rows;
+mod words;
 
-pub use build::{Ending, tree_within};
-pub use forms::tree_form;
+pub use cert::{read_cert, read_chain};

@@ -1,12 +1,11 @@
 -- Lines that repeat themselves at a distance are cut into blocks that do.
-use Rattle.std.proofs.Common.{arith, ◌≡◌, ◌⊎◌, ◌≤◌, ◌<◌, ◌+◌, ◌-◌, ℕ, zero, suc, List, [], ◌∷◌, ◌++◌, length, length-append, take, drop, Bool, true, false, cond, Some, slice_get, refl, sym, ap, ◌∙◌, subst, inl, inr}
+use Rattle.std.proofs.Common.{arith, ◌≡◌, ◌⊎◌, ◌≤◌, ◌<◌, ◌+◌, ℕ, zero, suc, List, [], ◌∷◌, ◌++◌, length, take, drop, Bool, true, false, cond, Some, refl, sym, ap, ◌∙◌, subst, inl, inr}
 use Rattle.std.proofs.lemmas.List.{take-append-drop}
-use Rattle.std.proofs.Math.Seq.{drop-append_seam, take-append_seam}
-use Rattle.wt_grid.specs.Lines.{Table, IsGood, IsAcross, IsField, Singles, Pairs, IsImage, is_marker_line, cut_end, AllFilled, AllLong, Begins, Shift, KeepsBlocks}
+use Rattle.wt_grid.specs.Lines.{Table, IsGood, IsAcross, IsField, Singles, Pairs, IsImage, is_marker_line, cut_end, AllFilled, Begins, Shift, KeepsBlocks}
 use Rattle.wt_grid.specs.Lines.{one, two}
 use Rattle.wt_grid.specs.Cuts.{cut_front, cut_lines}
 use Rattle.wt_grid.specs.Shifts.{Same, Meets, Repeats}
-use Rattle.wt_grid.proofs.Cut.{begins, field_front, filled_front}
+use Rattle.wt_grid.proofs.Cut.{begins, filled_front}
 use Rattle.wt_grid.proofs.Others.{split}
 use Rattle.wt_grid.proofs.Periods.{shift_blocks}
 
@@ -221,10 +220,14 @@ module _ (t : Table) (good : IsGood t) (a b : ℕ) where
       at_line [] w back e l = absurd (let lt : a < 0 = l.0 in omega arith)
       at_line (c ∷ cs) w back e l =
           let m = first_flag ls d (c ∷ cs) w back f g s e l in
-          let r = blocks_from ls d c cs w back qs (omega arith) e m i in
-          (r.0, r.1, r.2, r.3,
-              shift_blocks t good (Meet t good a b) (Meets a b) (keeps t good a b) ls (drop d ls) qs r.1 (shorter_drop d ls) n (filled_drop d ls n)
-              (shift_with (Meets a b) (Long t good a b) ls (drop d ls) s f (each_drop (Long t good a b) d ls f)) i r.4)
+          let r = blocks_from ls d c cs w back qs (omega arith) e m i in (
+            r.0,
+            r.1,
+            r.2,
+            r.3,
+            shift_blocks t good (Meet t good a b) (Meets a b) (keeps t good a b) ls (drop d ls) qs r.1 (shorter_drop d ls) n (filled_drop d ls n)
+                (shift_with (Meets a b) (Long t good a b) ls (drop d ls) s f (each_drop (Long t good a b) d ls f)) i r.4,
+          )
 
   -- The same for the lines of a core, whose border lines are cut.
   pub carry_cut : (ls qs : List (List ℕ)) (d : ℕ) → AllFilled ls → AllFit ls → IsField t.along t.across ls → d + 3 ≤ length ls → Repeats a b d ls → IsImage t.images qs (cut_lines t.marker ls)

@@ -1,19 +1,17 @@
 -- A period of a core is a period of its coarse rectangle.
-use Rattle.std.proofs.Common.{arith, ◌≡◌, ◌⊎◌, ◌≤◌, ◌<◌, ◌+◌, ◌-◌, ℕ, zero, suc, List, [], ◌∷◌, ◌++◌, length, length-append, take, drop, get_or, Bool, true, false, refl, sym, ap, ◌∙◌, subst, inl, inr}
+use Rattle.std.proofs.Common.{arith, ◌≡◌, ◌≤◌, ◌<◌, ◌+◌, ℕ, zero, suc, List, [], ◌∷◌, length, take, drop, get_or, Bool, refl, sym, ap, ◌∙◌, subst}
 use Rattle.std.proofs.lemmas.List.{get_or-drop, length-drop}
-use Rattle.wt_grid.specs.Lines.{Piece, IsGood, IsImage, IsField, AllLong, Shift}
+use Rattle.wt_grid.specs.Lines.{Piece, IsGood, IsImage, AllLong}
 use Rattle.wt_grid.specs.Cuts.{Side, cut, table}
-use Rattle.wt_grid.specs.Grid.{Grid, IsGrid, Axis, along, across, at, listed, lines}
-use Rattle.wt_grid.specs.Grid.{one as first_axis, two as second_axis}
+use Rattle.wt_grid.specs.Grid.{Grid, IsGrid, Axis, along, across, at, lines}
 use Rattle.wt_grid.specs.Parts.{other, core, IsValid}
 use Rattle.wt_grid.specs.Shifts.{Same, Meets, Repeats, IsRepeated}
 use Rattle.wt_grid.specs.Images.{image_lines}
 use Rattle.wt_grid.proofs.Parts.{at_core, along_core, across_core}
-use Rattle.wt_grid.proofs.Grids.{field_lines, long_lines, length_lines, long_coarse}
-use Rattle.wt_grid.proofs.Rectangles.{line_cell, first_line, wide_along}
+use Rattle.wt_grid.proofs.Grids.{field_lines, long_lines, length_lines}
+use Rattle.wt_grid.proofs.Rectangles.{line_cell}
 use Rattle.wt_grid.proofs.ImageGrids.{image_count}
-use Rattle.wt_grid.proofs.Law.{cut_long}
-use Rattle.wt_grid.proofs.CarriedSides.{shift_to, shift_from, Carried, carry}
+use Rattle.wt_grid.proofs.CarriedSides.{shift_to, shift_from, carry}
 
 -- Lines that meet, cell by cell.
 
@@ -123,11 +121,13 @@ module _ (axis : Axis) (side : Side) (allows : Axis → ℕ → ℕ → Bool) (m
       let few : k ≤ along axis q = (let f = r.1.0 in omega arith) in
       let f0 = r.1.2 0 (omega arith) in
       let count = image_count im (take k (lines axis q)) in
-      let lk = length_take k (lines axis q) (omega arith) in
-      (k, record {
-        few = few;
-        repeated = lines_repeated axis k a b q r.1.1;
-        filled = λ i li. r.1.2 i (omega arith);
-        shorter = omega (arith, count.0, f0, lk);
-        doubled = omega (arith, count.1, f0, lk);
-      })
+      let lk = length_take k (lines axis q) (omega arith) in (
+        k,
+        record {
+          few = few;
+          repeated = lines_repeated axis k a b q r.1.1;
+          filled = λ i li. r.1.2 i (omega arith);
+          shorter = omega (arith, count.0, f0, lk);
+          doubled = omega (arith, count.1, f0, lk);
+        },
+      )

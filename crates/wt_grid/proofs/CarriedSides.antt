@@ -3,14 +3,14 @@ use Rattle.std.proofs.Common.{arith, ◌≡◌, ◌⊎◌, ◌≤◌, ◌<◌, �
 use Rattle.std.proofs.lemmas.List.{take-append-drop, get_or-drop, length-drop, get_or_append_left, get_or-append_right}
 use Rattle.std.proofs.lemmas.Option.{get_or_from_slice_get}
 use Rattle.std.proofs.Math.Seq.{drop-append_seam, take-append_seam}
-use Rattle.wt_grid.specs.Lines.{Piece, one, two, IsGood, IsAcross, IsField, Singles, Pairs, IsImage, is_marker_line, AllFilled, AllLong, Shift}
+use Rattle.wt_grid.specs.Lines.{Piece, one, two, IsGood, IsAcross, IsField, Singles, Pairs, IsImage, is_marker_line, AllLong, Shift}
 use Rattle.wt_grid.specs.Cuts.{backwards, opposite, cut_front, cut_lines, Side, after, before, cut, flip, table}
 use Rattle.wt_grid.specs.Shifts.{Same, Meets, Repeats, fill}
 use Rattle.wt_grid.specs.Images.{piece_at, first_tile, last_tile, is_pair, firsts, lasts, is_double, line_image, image_lines, IsEvenLine, IsEven}
 use Rattle.wt_grid.proofs.Grids.{long_coarse, filled_long}
-use Rattle.wt_grid.proofs.Backwards.{backwards_append, backwards_twice, length-backwards, field_backwards, filled_backwards, image_backwards}
-use Rattle.wt_grid.proofs.Law.{flipped, unflipped, cut_long}
-use Rattle.wt_grid.proofs.Carried.{EachLine, each_drop, shift_tail, shift_with, length_take, length_front, Long, carry_cut}
+use Rattle.wt_grid.proofs.Backwards.{backwards_append, backwards_twice, length-backwards, field_backwards, image_backwards}
+use Rattle.wt_grid.proofs.Law.{flipped, cut_long}
+use Rattle.wt_grid.proofs.Carried.{EachLine, each_drop, shift_tail, shift_with, length_take, length_front, carry_cut}
 
 -- ---- the image of coarse lines is the computed one
 
@@ -332,8 +332,8 @@ carry_before al ac marker im good a b m d ls qs la lb l f le s i =
     let short : length (backwards (take n qs)) ≡ n = length-backwards (take n qs) ∙ length_take n qs few in
     let win : take n (drop k (backwards qs)) ≡ backwards (take n qs) = ap (take n) (split_backwards n qs few) ∙ take_rest n (backwards (take n qs)) (omega arith) in
     let total : fill (size im) (take n qs) ≡ d =
-        sym (fill_backwards (size im) (take n qs)) ∙ (sym (fill_same (size om) (size im) (backwards (take n qs)) (size_flip im))
-        ∙ (sym (fill_image om (backwards (take n qs))) ∙ (ap (λ (ys : List (List ℕ)). length (image_lines om ys)) (sym win) ∙ last))) in
+    sym (fill_backwards (size im) (take n qs)) ∙ (sym (fill_same (size om) (size im) (backwards (take n qs)) (size_flip im))
+    ∙ (sym (fill_image om (backwards (take n qs))) ∙ (ap (λ (ys : List (List ℕ)). length (image_lines om ys)) (sym win) ∙ last))) in
     (n, (few, rep, λ k' lk. fill_image im (take n (drop k' qs)) ∙ (windows (size im) n k' qs lk large ∙ total)))
 
 -- A period of the lines of a core is a period of its blocks.

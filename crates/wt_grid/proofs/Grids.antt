@@ -1,7 +1,7 @@
 -- Lines and cells.
 use Rattle.std.proofs.Common.{arith, ◌≡◌, ℕ, zero, suc, ◌<◌, ◌≤◌, List, [], ◌∷◌, length, get_or, Bool, true, refl, ap, ◌∙◌, subst, inl, inr}
 use Rattle.wt_grid.specs.Lines.{Piece, IsAcross, IsBeside, IsField, Singles, Pairs, IsImage, AllFilled, AllLong}
-use Rattle.wt_grid.specs.Grid.{Grid, IsGrid, Axis, one, two, along, across, at, listed, lines, grid_of, of_lines}
+use Rattle.wt_grid.specs.Grid.{Grid, IsGrid, Axis, one, two, along, across, at, listed, lines, of_lines}
 use Rattle.wt_grid.proofs.Bridge.{length-listed, cell_of, field_listed}
 use Rattle.wt_grid.specs.Parts.{other, IsValid}
 use Rattle.wt_grid.proofs.Parts.{grid_grid}

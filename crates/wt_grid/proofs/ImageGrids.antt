@@ -1,11 +1,11 @@
 -- The image of a valid coarse rectangle is a valid rectangle.
-use Rattle.std.proofs.Common.{arith, ◌≡◌, ◌<◌, ◌≤◌, ◌+◌, ◌++◌, ℕ, zero, suc, List, [], ◌∷◌, length, length-append, map, get_or, Bool, true, false, refl, sym, ap, ◌∙◌, subst}
+use Rattle.std.proofs.Common.{arith, ◌≡◌, ◌<◌, ◌≤◌, ◌+◌, ◌++◌, ℕ, zero, suc, List, [], ◌∷◌, length, length-append, Bool, true, false, refl, sym, ◌∙◌, subst}
 use Rattle.std.proofs.lemmas.List.{length-map}
 use Rattle.wt_grid.specs.Lines.{Piece, one, two, IsField, IsImage, AllLong}
-use Rattle.wt_grid.specs.Grid.{Grid, IsGrid, Axis, along, across, at, listed, lines, of_lines}
+use Rattle.wt_grid.specs.Grid.{Grid, IsGrid, Axis, across, at, listed, lines, of_lines}
 use Rattle.wt_grid.specs.Grid.{one as first_axis, two as second_axis}
 use Rattle.wt_grid.specs.Parts.{other, AllBelow, IsValid}
-use Rattle.wt_grid.specs.Images.{piece_at, first_tile, last_tile, is_pair, firsts, lasts, is_double, line_image, image_lines, image_grid, IsEven, LineBelow, LinesBelow, PieceBelow}
+use Rattle.wt_grid.specs.Images.{piece_at, first_tile, last_tile, is_pair, firsts, lasts, is_double, line_image, image_lines, image_grid, LineBelow, LinesBelow, PieceBelow}
 use Rattle.wt_grid.proofs.Coarse.{MatchAcross}
 use Rattle.wt_grid.proofs.Grids.{field_lines, lines_field, long_lines, length_lines, lines_of, grid_of_lines}
 use Rattle.wt_grid.proofs.Rectangles.{below_lines, wide_along}

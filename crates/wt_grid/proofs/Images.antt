@@ -1,7 +1,7 @@
 -- The image of coarse lines that match is a field of fine lines.
-use Rattle.std.proofs.Common.{arith, ◌≡◌, ◌⊎◌, ◌<◌, ◌++◌, ℕ, List, [], ◌∷◌, length, map, get_or, Bool, true, false, cond, Some, slice_get, refl, sym, ap, subst, ◌∙◌, inl, inr}
-use Rattle.std.proofs.lemmas.Option.{slice_get-get_or, get_or_from_slice_get}
-use Rattle.wt_grid.specs.Lines.{Piece, one, two, IsAcross, IsBeside, IsField, Singles, Pairs, IsImage, AllFilled}
+use Rattle.std.proofs.Common.{◌≡◌, ◌<◌, ◌++◌, ℕ, List, [], ◌∷◌, length, Bool, true, false, Some, slice_get, refl, sym, ap, subst, ◌∙◌, inl, inr}
+use Rattle.std.proofs.lemmas.Option.{slice_get-get_or}
+use Rattle.wt_grid.specs.Lines.{Piece, one, two, IsAcross, IsBeside, IsField, Singles, Pairs, IsImage}
 use Rattle.wt_grid.specs.Images.{piece_at, first_tile, last_tile, is_pair, firsts, lasts, is_double, line_image, image_lines, IsEvenLine, IsEven, LineBelow, LinesBelow}
 use Rattle.wt_grid.proofs.Coarse.{MatchAcross}
 

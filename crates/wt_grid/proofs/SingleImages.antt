@@ -3,7 +3,6 @@ use Rattle.std.proofs.Common.{arith, ◌≡◌, ◌<◌, ◌≤◌, ℕ, zero, s
 use Rattle.wt_grid.specs.Lines.{Piece, one, two, Singles, Pairs, IsImage, AllLong}
 use Rattle.wt_grid.specs.Grid.{Grid, IsGrid, Axis, along, across, at, listed, lines}
 use Rattle.wt_grid.specs.Parts.{other}
-use Rattle.wt_grid.proofs.Bridge.{length-listed}
 use Rattle.wt_grid.proofs.Grids.{long_lines, length_lines, long_coarse}
 use Rattle.wt_grid.proofs.Rectangles.{line_cell, wide_along}
 use Rattle.wt_grid.proofs.TraceSteps.{at_other, along_other, across_other}
@@ -85,21 +84,27 @@ cells_stand im axis q c n iq le i =
     let w = wide_along axis q iq in
     let nq = length_lines axis q in
     let nc = length_lines axis c in
-    let b : across axis q ≡ across axis c = sym (first_long (across axis q) (lines axis q) (omega arith) (long_lines axis q)) ∙ first_long (across axis c) (lines axis q) (omega arith) lq in
-    (a, b, λ x y lx ly.
-        let r = lines_at im (lines axis q) (lines axis c) x s (omega arith) in
-        let m = line_long (across axis c) (lines axis c) x long (omega arith) in
-        let k = single_at im (get_or (lines axis q) x []) (get_or (lines axis c) x []) y r (omega arith) in
-        ap (slice_get im) (sym (line_cell axis q x y (omega arith) (omega arith))) ∙ (k ∙ ap (λ (z : ℕ). Some (one z)) (line_cell axis c x y lx ly)))
+    let b : across axis q ≡ across axis c = sym (first_long (across axis q) (lines axis q) (omega arith) (long_lines axis q)) ∙ first_long (across axis c) (lines axis q) (omega arith) lq in (
+      a,
+      b,
+      λ x y lx ly.
+          let r = lines_at im (lines axis q) (lines axis c) x s (omega arith) in
+          let m = line_long (across axis c) (lines axis c) x long (omega arith) in
+          let k = single_at im (get_or (lines axis q) x []) (get_or (lines axis c) x []) y r (omega arith) in
+          ap (slice_get im) (sym (line_cell axis q x y (omega arith) (omega arith))) ∙ (k ∙ ap (λ (z : ℕ). Some (one z)) (line_cell axis c x y lx ly)),
+    )
 
 pub stand_other : (im : List Piece) (axis : Axis) (q c : Grid) → StandsFor im axis q c → StandsFor im (other axis) q c
 stand_other im axis q c s =
     let a = along_other axis q in
     let b = across_other axis q in
     let x = along_other axis c in
-    let y = across_other axis c in
-    (a ∙ (s.1 ∙ sym x), b ∙ (s.0 ∙ sym y), λ i j li lj.
-        ap (slice_get im) (at_other axis q i j) ∙ (s.2 j i (omega arith) (omega arith) ∙ ap (λ (z : ℕ). Some (one z)) (sym (at_other axis c i j))))
+    let y = across_other axis c in (
+      a ∙ (s.1 ∙ sym x),
+      b ∙ (s.0 ∙ sym y),
+      λ i j li lj.
+          ap (slice_get im) (at_other axis q i j) ∙ (s.2 j i (omega arith) (omega arith) ∙ ap (λ (z : ℕ). Some (one z)) (sym (at_other axis c i j))),
+    )
 
 singles_listed : (im : List Piece) (m : ℕ) (a b : ℕ → ℕ) → ((j : ℕ) → j < m → slice_get im (a j) ≡ Some (one (b j))) → Singles im (listed m a) (listed m b)
 singles_listed im zero a b h = tt

@@ -1,10 +1,10 @@
 -- Runs of cells are followed from a coarse rectangle to the one that it was made of.
-use Rattle.std.proofs.Common.{arith, ◌≡◌, ◌⊎◌, ◌≤◌, ◌<◌, ◌+◌, ◌-◌, ℕ, zero, suc, List, [], ◌∷◌, ◌++◌, length, length-append, map, take, drop, get_or, Bool, true, false, cond, refl, sym, ap, ◌∙◌, subst, inl, inr}
+use Rattle.std.proofs.Common.{arith, ◌≡◌, ◌≤◌, ◌<◌, ◌+◌, ℕ, zero, suc, List, [], ◌∷◌, ◌++◌, length, length-append, map, take, drop, get_or, Bool, true, false, cond, refl, sym, ap, ◌∙◌}
 use Rattle.std.specs.List.{flat_map}
 use Rattle.std.proofs.lemmas.List.{drop-append-le, take-append-le, get_or-append-add, get_or_append_left, length-drop}
 use Rattle.std.proofs.Math.Seq.{drop-append-add}
-use Rattle.wt_grid.specs.Lines.{Piece, one, two, IsImage, AllLong}
-use Rattle.wt_grid.specs.Grid.{Grid, IsGrid, Axis, along, across, at, listed, lines}
+use Rattle.wt_grid.specs.Lines.{Piece, IsImage, AllLong}
+use Rattle.wt_grid.specs.Grid.{Grid, IsGrid, Axis, along, across, at, lines}
 use Rattle.wt_grid.specs.Grid.{one as first_axis, two as second_axis}
 use Rattle.wt_grid.specs.Parts.{other, core}
 use Rattle.wt_grid.specs.Widths.{Stage, next_row, last_row}
@@ -162,16 +162,19 @@ module _ (axis : Axis) (im : List Piece) (g q : Grid) (r : ℕ) (L : List (List 
       let ac = along_core axis r g in
       let xc = across_core axis r g in
       let run : take d (drop o L) ≡ image_lines im (take n (drop k qs)) =
-          ap (λ (ys : List (List ℕ)). take d (drop o ys)) found.0 ∙ (ap (λ (x : ℕ). take x (drop o (image_lines im qs))) (sym e) ∙ run_image im qs k n) in
+      ap (λ (ys : List (List ℕ)). take d (drop o ys)) found.0 ∙ (ap (λ (x : ℕ). take x (drop o (image_lines im qs))) (sym e) ∙ run_image im qs k n) in
       let within : take d (drop (f + o) (lines axis (core r g))) ≡ take d (drop o L) =
-          ap (λ (ys : List (List ℕ)). take d (drop (f + o) ys)) stands.2 ∙ inside_run stands.0 L stands.1 o d (omega arith) in
+      ap (λ (ys : List (List ℕ)). take d (drop (f + o) ys)) stands.2 ∙ inside_run stands.0 L stands.1 o d (omega arith) in
       let row : next_row s (segment axis q k j n) ≡ cells_at j (image_lines im (take n (drop k qs))) =
-          row_along im s (segment axis q k j n) st
-          ∙ (ap (flat_map (λ t. piece_tiles (piece_at im t))) (sym (segment_lines axis q k j n le lt))
-          ∙ sym (image_cells im (across axis (core r g)) j (take n (drop k qs)) (omega arith) (long_take (across axis (core r g)) n (drop k qs) (long_drop (across axis (core r g)) k qs coarse_long)) (even_take im n (drop k qs) (even_drop im k qs found.1)))) in
-      (r + (f + o), omega arith, omega arith,
-          row ∙ (ap (cells_at j) (sym run) ∙ (ap (cells_at j) (sym within)
-          ∙ (segment_lines axis (core r g) (f + o) j d (omega arith) (omega arith) ∙ segment_core axis r g (f + o) j d (omega arith) (omega arith)))))
+      row_along im s (segment axis q k j n) st
+      ∙ (ap (flat_map (λ t. piece_tiles (piece_at im t))) (sym (segment_lines axis q k j n le lt))
+      ∙ sym (image_cells im (across axis (core r g)) j (take n (drop k qs)) (omega arith) (long_take (across axis (core r g)) n (drop k qs) (long_drop (across axis (core r g)) k qs coarse_long)) (even_take im n (drop k qs) (even_drop im k qs found.1)))) in (
+        r + (f + o),
+        omega arith,
+        omega arith,
+        row ∙ (ap (cells_at j) (sym run) ∙ (ap (cells_at j) (sym within)
+            ∙ (segment_lines axis (core r g) (f + o) j d (omega arith) (omega arith) ∙ segment_core axis r g (f + o) j d (omega arith) (omega arith)))),
+      )
 
   pub traced_along : (s : Stage) (ss : List Stage) (d0 d n : ℕ) → IsStageOf true im s → ((k : ℕ) → k + n ≤ along axis q → length (image_lines im (take n (drop k (lines axis q)))) ≡ d)
       → IsTraced axis ss d0 g d → IsTraced axis (s ∷ ss) d0 q n
@@ -196,16 +199,16 @@ module _ (axis : Axis) (im : List Piece) (g q : Grid) (r : ℕ) (L : List (List 
       let oa = along_other axis (core r g) in
       let ob = across_other axis (core r g) in
       let line : get_or (lines axis (core r g)) (f + o) [] ≡ firsts im (get_or qs j []) =
-          ap (λ (ys : List (List ℕ)). get_or ys (f + o) []) stands.2
-          ∙ (inside_line stands.0 L stands.1 o (omega arith) ∙ (ap (λ (ys : List (List ℕ)). get_or ys o []) found.0 ∙ first_of_block im qs j (omega arith))) in
+      ap (λ (ys : List (List ℕ)). get_or ys (f + o) []) stands.2
+      ∙ (inside_line stands.0 L stands.1 o (omega arith) ∙ (ap (λ (ys : List (List ℕ)). get_or ys o []) found.0 ∙ first_of_block im qs j (omega arith))) in
       let cell_is : (i : ℕ) → i < e → first_tile (piece_at im (at (other axis) q (k + i) j)) ≡ at (other axis) (core r g) (k + i) (f + o) = λ i l.
-          (ap (λ (x : ℕ). first_tile (piece_at im x)) (at_other axis q (k + i) j ∙ sym (line_cell axis q j (k + i) lt (omega arith)))
-          ∙ (sym (firsts_at (get_or qs j []) (k + i) (line_is j lt (k + i) (omega arith)))
-          ∙ (ap (λ (u : List ℕ). get_or u (k + i) 0) (sym line) ∙ (line_cell axis (core r g) (f + o) (k + i) (omega arith) (omega arith) ∙ sym (at_other axis (core r g) (k + i) (f + o)))))) in
+      (ap (λ (x : ℕ). first_tile (piece_at im x)) (at_other axis q (k + i) j ∙ sym (line_cell axis q j (k + i) lt (omega arith)))
+      ∙ (sym (firsts_at (get_or qs j []) (k + i) (line_is j lt (k + i) (omega arith)))
+      ∙ (ap (λ (u : List ℕ). get_or u (k + i) 0) (sym line) ∙ (line_cell axis (core r g) (f + o) (k + i) (omega arith) (omega arith) ∙ sym (at_other axis (core r g) (k + i) (f + o)))))) in
       let row : next_row s (segment (other axis) q k j e) ≡ segment (other axis) (core r g) k (f + o) e =
-          row_across im s (segment (other axis) q k j e) st
-          ∙ (listed_map (λ t. first_tile (piece_at im t)) e (λ i. at (other axis) q (k + i) j)
-          ∙ listed_same e (λ i. first_tile (piece_at im (at (other axis) q (k + i) j))) (λ i. at (other axis) (core r g) (k + i) (f + o)) cell_is) in
+      row_across im s (segment (other axis) q k j e) st
+      ∙ (listed_map (λ t. first_tile (piece_at im t)) e (λ i. at (other axis) q (k + i) j)
+      ∙ listed_same e (λ i. first_tile (piece_at im (at (other axis) q (k + i) j))) (λ i. at (other axis) (core r g) (k + i) (f + o)) cell_is) in
       (r + (f + o), omega arith, omega arith, row ∙ segment_core (other axis) r g k (f + o) e (omega arith) (omega arith))
     where
       firsts_at : (u : List ℕ) (i : ℕ) → i < length u → get_or (firsts im u) i 0 ≡ first_tile (piece_at im (get_or u i 0))

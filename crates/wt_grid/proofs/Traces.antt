@@ -1,17 +1,14 @@
 -- A run of coarse cells stands for a run of cells of the rectangle below.
-use Rattle.std.proofs.Common.{arith, ◌≡◌, ◌⊎◌, ◌≤◌, ◌<◌, ◌+◌, ◌-◌, ℕ, zero, suc, List, [], ◌∷◌, ◌++◌, append_assoc, length, length-append, map, take, drop, get_or, Bool, true, false, cond, refl, sym, ap, ◌∙◌, subst, inl, inr}
+use Rattle.std.proofs.Common.{arith, ◌≡◌, ◌≤◌, ◌<◌, ◌+◌, ◌-◌, ℕ, zero, suc, List, [], ◌∷◌, ◌++◌, append_assoc, length, length-append, map, take, drop, get_or, Bool, true, false, refl, sym, ap, ◌∙◌}
 use Rattle.std.specs.List.{flat_map}
-use Rattle.std.proofs.lemmas.List.{take-append-drop, get_or-drop, get_or-map, length-map, get_or_append_left, append-nil}
+use Rattle.std.proofs.lemmas.List.{take-append-drop, get_or-map}
 use Rattle.std.proofs.Math.Seq.{drop-append_seam, take-append_seam}
-use Rattle.wt_grid.specs.Lines.{Piece, one, two, IsImage, AllLong, is_marker_line, cut_end}
+use Rattle.wt_grid.specs.Lines.{Piece, one, two, AllLong, is_marker_line, cut_end}
 use Rattle.wt_grid.specs.Cuts.{Side, after, before, cut, cut_front, cut_lines, backwards}
-use Rattle.wt_grid.specs.Grid.{Grid, IsGrid, Axis, along, across, at, listed, lines}
-use Rattle.wt_grid.specs.Grid.{one as first_axis, two as second_axis}
-use Rattle.wt_grid.specs.Parts.{other, core}
-use Rattle.wt_grid.specs.Widths.{Stage, next_row, last_row}
+use Rattle.wt_grid.specs.Grid.{Grid, Axis, along, across, at, listed, lines}
 use Rattle.wt_grid.specs.Images.{piece_at, first_tile, last_tile, is_pair, firsts, lasts, is_double, line_image, image_lines, IsEvenLine, IsEven}
-use Rattle.wt_grid.specs.Traces.{segment, cells_at, piece_tiles, IsStageOf, IsTraced}
-use Rattle.wt_grid.proofs.Bridge.{length-listed, get_or-listed}
+use Rattle.wt_grid.specs.Traces.{segment, cells_at, piece_tiles}
+use Rattle.wt_grid.proofs.Bridge.{get_or-listed}
 use Rattle.wt_grid.proofs.Backwards.{backwards_append, backwards_twice}
 
 -- ---- parts of what is listed
@@ -101,7 +98,7 @@ run_image im qs k n =
     let c = drop n (drop k qs) in
     let e : qs ≡ a ++ (b ++ c) = sym (take-append-drop k qs) ∙ ap (λ (ys : List (List ℕ)). a ++ ys) (sym (take-append-drop n (drop k qs))) in
     let f : image_lines im qs ≡ image_lines im a ++ (image_lines im b ++ image_lines im c) =
-        ap (image_lines im) e ∙ (image_lines_append im a (b ++ c) ∙ ap (λ (ys : List (List ℕ)). image_lines im a ++ ys) (image_lines_append im b c)) in
+    ap (image_lines im) e ∙ (image_lines_append im a (b ++ c) ∙ ap (λ (ys : List (List ℕ)). image_lines im a ++ ys) (image_lines_append im b c)) in
     ap (λ (ys : List (List ℕ)). take (length (image_lines im b)) (drop (length (image_lines im a)) ys)) f ∙ middle (image_lines im a) (image_lines im b) (image_lines im c)
 
 pub run_fits : (im : List Piece) (qs : List (List ℕ)) (k n : ℕ) → length (image_lines im (take k qs)) + length (image_lines im (take n (drop k qs))) ≤ length (image_lines im qs)
@@ -111,7 +108,7 @@ run_fits im qs k n =
     let c = drop n (drop k qs) in
     let e : qs ≡ a ++ (b ++ c) = sym (take-append-drop k qs) ∙ ap (λ (ys : List (List ℕ)). a ++ ys) (sym (take-append-drop n (drop k qs))) in
     let f : image_lines im qs ≡ image_lines im a ++ (image_lines im b ++ image_lines im c) =
-        ap (image_lines im) e ∙ (image_lines_append im a (b ++ c) ∙ ap (λ (ys : List (List ℕ)). image_lines im a ++ ys) (image_lines_append im b c)) in
+    ap (image_lines im) e ∙ (image_lines_append im a (b ++ c) ∙ ap (λ (ys : List (List ℕ)). image_lines im a ++ ys) (image_lines_append im b c)) in
     let g = ap length f in
     let h = length-append (image_lines im a) (image_lines im b ++ image_lines im c) in
     let i = length-append (image_lines im b) (image_lines im c) in
@@ -149,6 +146,8 @@ pub cut_in : (side : Side) (marker : ℕ → Bool) (ls : List (List ℕ)) → St
 cut_in after marker ls = lines_in marker ls
 cut_in before marker ls =
     let r = lines_in marker (backwards ls) in
-    let c = cut_lines marker (backwards ls) in
-    (backwards r.1, backwards r.0,
-        sym (backwards_twice ls) ∙ (ap backwards r.2 ∙ (backwards_append r.0 (c ++ r.1) ∙ (ap (λ (ys : List (List ℕ)). ys ++ backwards r.0) (backwards_append c r.1) ∙ append_assoc (backwards r.1) (backwards c) (backwards r.0)))))
+    let c = cut_lines marker (backwards ls) in (
+      backwards r.1,
+      backwards r.0,
+      sym (backwards_twice ls) ∙ (ap backwards r.2 ∙ (backwards_append r.0 (c ++ r.1) ∙ (ap (λ (ys : List (List ℕ)). ys ++ backwards r.0) (backwards_append c r.1) ∙ append_assoc (backwards r.1) (backwards c) (backwards r.0)))),
+    )

@@ -1,8 +1,8 @@
 -- Vectors, read along either axis.
-use Rattle.std.proofs.Common.{arith, ◌≡◌, ◌<◌, ◌+◌, ℕ, Bool, true, false, cond, refl, sym, ◌∙◌, ap}
-use Rattle.wt_grid.specs.Grid.{Grid, Axis, along, across, at}
+use Rattle.std.proofs.Common.{arith, ◌≡◌, ◌+◌, ℕ, Bool, true, false, sym, ◌∙◌, ap}
+use Rattle.wt_grid.specs.Grid.{Grid, Axis, at}
 use Rattle.wt_grid.specs.Parts.{other}
-use Rattle.wt_grid.specs.Shifts.{IsRepeated, HasVector}
+use Rattle.wt_grid.specs.Shifts.{HasVector}
 use Rattle.wt_grid.proofs.TraceSteps.{at_other, along_other, across_other}
 
 -- the other axis reads the same vector the other way

@@ -1,5 +1,5 @@
 -- Images of coarse lines and of coarse rectangles, computed from the pieces of their tiles.
-use Rattle.std.specs.Prelude.{◌≡◌, ℕ, ◌<◌, ◌++◌, Bool, true, false, if◌then◌else◌, List, [], ◌∷◌, length, map, slice_index_or}
+use Rattle.std.specs.Prelude.{◌≡◌, ℕ, ◌<◌, ◌++◌, Bool, true, false, if◌then◌else◌, List, [], ◌∷◌, map, slice_index_or}
 use Rattle.wt_grid.specs.Lines.{Piece, one, two}
 use Rattle.wt_grid.specs.Grid.{Grid, Axis, across, lines, of_lines}
 

@@ -9,9 +9,9 @@ mod parts;
 mod pattern;
 mod periods;
 mod rows;
-mod text;
 #[cfg(test)]
 mod tests;
+mod text;
 mod text_laws;
 mod validity;
 mod window;

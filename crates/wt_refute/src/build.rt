@@ -8,10 +8,11 @@ ghost use Rattle.wt_refute.specs.Standard.{tree_within, standard_tree};
 
 use crate::check::{free_cells, place_pair};
 use crate::choice::{first_citation, tightest};
-use crate::window::{fits, shape_of};
+use crate::window::fits;
 use crate::{Child, Refuted, Tree};
 use sqlite_items::Items;
 use std::alloc::Global;
+use wt_pattern::window_shape;
 use wt_tile::{Axis, SetRef, Tile};
 
 /// Why no tree was built.
@@ -47,6 +48,7 @@ fn grow(
     requires small { shape.0 < 2 ^ 32 }
     requires few { length tiles.now ≤ 65536 }
     requires few_cells { length cells.old ≤ 65536 }
+    requires radius { radius ≤ 4 }
     requires in_order { ascends known.now ≡ true }
     ensures same { cells.new ≡ cells.old }
     ensures ok { IfOk result (λ r. (refutation r.0 ≡ tree_within tiles.now radius known.now depth (placed shape cells.old))
@@ -116,7 +118,7 @@ pub fn build_tree(
     ensures spent { IsErrOf result BuildEnd.Spent → budget < node_count (standard_tree set.entry.list.now.tiles axis a b radius known.now) }
 {
     let tiles = set.tiles();
-    let shape = shape_of(axis, radius);
+    let shape = window_shape(axis, radius);
     let mut all = free_cells();
     let cells = &mut all[..shape.0 * shape.1];
     place_pair(axis, a, b, radius, shape, cells);

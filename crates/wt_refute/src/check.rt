@@ -3,14 +3,16 @@ ghost use Rattle.std.specs.Prelude.{◌≡◌, ℕ, ◌+◌, ◌-◌, ◌*◌, �
 ghost use Rattle.std.specs.Option.{option_map};
 ghost use Rattle.wt_refute.specs.Refutation.{node_count, tiles_in, held};
 ghost use Rattle.wt_refute.specs.View.{refutation, children_view};
-ghost use Rattle.wt_refute.specs.Placed.{placed, window_shape, window_of, tile_window, next_cell as cell_beside};
+ghost use Rattle.wt_pattern.specs.Windows.{window_size};
+ghost use Rattle.wt_refute.specs.Placed.{placed, window_of, tile_window, next_cell as cell_beside};
 ghost use Rattle.wt_refute.specs.Entries.{ascends};
 ghost use Rattle.wt_refute.specs.Refutes.{lies_inside as is_inside, next_placed as the_next, is_cited as cited, is_branching as branching, first_wrong, tree_fault, tile_tree_fault};
 
 use crate::known::has_entry;
-use crate::window::{above, is_free, next_fitting, right_of, shape_of, tile_in};
+use crate::window::{above, is_free, next_fitting, right_of, tile_in};
 use crate::{Child, Refuted, Tree};
-use wt_tile::{Axis, SetRef, Tile, same_axis};
+use wt_pattern::window_shape;
+use wt_tile::{Axis, SetRef, Tile};
 
 /// The first wrong node of a tree in preorder, counted from 0 at the root, held at the last value of usize.
 #[derive(Clone, Copy, Debug, PartialEq, Eq)]
@@ -19,13 +21,14 @@ pub struct TreeFault {
 }
 
 fn lies_inside(shape: (usize, usize), cell: usize, axis: Axis, radius: u8) -> bool
+    requires radius { radius ≤ 4 }
     requires wide { 0 < shape.0 }
     requires low { cell < 2 ^ 32 }
     ensures { result ≡ is_inside shape.0 shape.1 cell axis radius }
 {
     let x = cell % shape.0;
     let y = cell / shape.0;
-    let inner = shape_of(axis, radius);
+    let inner = window_shape(axis, radius);
     let radius = usize::from(radius);
     radius <= x && radius <= y && x - radius + inner.0 <= shape.0 && y - radius + inner.1 <= shape.1
 }
@@ -55,6 +58,7 @@ pub fn is_cited(
     requires wide { 0 < shape.0 }
     requires small { shape.0 < 2 ^ 32 }
     requires low { cell < 2 ^ 32 }
+    requires radius { radius ≤ 4 }
     requires in_order { ascends known.now ≡ true }
     ensures { result ≡ cited radius known.now (placed shape cells.now) cell axis }
 {
@@ -113,6 +117,7 @@ fn walk(
     requires wide { 0 < shape.0 }
     requires small { shape.0 < 2 ^ 32 }
     requires few { length tiles.now ≤ 65536 }
+    requires radius { radius ≤ 4 }
     requires in_order { ascends known.now ≡ true }
     ensures same { cells.new ≡ cells.old }
     ensures judged { MatchResult result
@@ -160,7 +165,7 @@ pub fn place_pair(
     shape: (usize, usize),
     cells: &mut [Option<u16>],
 )
-    requires shape { shape ≡ window_shape axis radius }
+    requires shape { shape ≡ window_size axis radius }
     requires free { cells.old ≡ replicate (shape.0 * shape.1) None }
     ensures { placed shape cells.new ≡ window_of axis a b radius }
 {
@@ -226,7 +231,7 @@ fn check_pair(
         (λ _. tree_fault tiles.now axis a b radius known.now tree.now ≡ None)
         (λ fault. tree_fault tiles.now axis a b radius known.now tree.now ≡ Some fault.node) }
 {
-    let shape = shape_of(axis, radius);
+    let shape = window_shape(axis, radius);
     let mut all = free_cells();
     let cells = &mut all[..shape.0 * shape.1];
     place_pair(axis, a, b, radius, shape, cells);
@@ -257,8 +262,8 @@ fn check_tile(tiles: &[Tile], tile: u16, radius: u8, tree: &Tree) -> Result<(), 
         (λ _. tile_tree_fault tiles.now tile radius tree.now ≡ None)
         (λ fault. tile_tree_fault tiles.now tile radius tree.now ≡ Some fault.node) }
 {
-    let radius_wide = usize::from(radius);
-    let side = 2 * radius_wide + 1;
+    let border = usize::from(radius);
+    let side = border + border + 1;
     let mut all = free_cells();
     let cells = &mut all[..side * side];
     place_tile(tile, radius, (side, side), cells);
@@ -270,8 +275,8 @@ fn check_tile(tiles: &[Tile], tile: u16, radius: u8, tree: &Tree) -> Result<(), 
 
 /// Places a tile in the middle of its free window.
 fn place_tile(tile: u16, radius: u8, shape: (usize, usize), cells: &mut [Option<u16>])
-    requires wide { shape.0 ≡ 2 * radius + 1 }
-    requires high { shape.1 ≡ 2 * radius + 1 }
+    requires wide { shape.0 ≡ radius + radius + 1 }
+    requires high { shape.1 ≡ radius + radius + 1 }
     requires free { cells.old ≡ replicate (shape.0 * shape.1) None }
     ensures { placed shape cells.new ≡ tile_window tile radius }
 {

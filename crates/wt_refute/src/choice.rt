@@ -20,6 +20,7 @@ fn citation_at(
 ) -> Option<(u16, Axis)>
     requires wide { 0 < shape.0 }
     requires small { shape.0 < 2 ^ 32 }
+    requires radius { radius ≤ 4 }
     requires in_order { ascends known.now ≡ true }
     ensures { result ≡ the_citation radius known.now (placed shape cells.now) cell }
 {
@@ -44,6 +45,7 @@ pub fn first_citation(
     requires wide { 0 < shape.0 }
     requires small { shape.0 < 2 ^ 32 }
     requires few { length cells.now ≤ 65536 }
+    requires radius { radius ≤ 4 }
     requires in_order { ascends known.now ≡ true }
     ensures { result ≡ the_first radius known.now (placed shape cells.now) }
 {

@@ -1,19 +1,8 @@
 // Windows with some of their tiles placed.
 ghost use Rattle.std.specs.Prelude.{◌≡◌, ◌+◌, ℕ, ◌-◌, ◌^◌, ◌<◌, ◌≤◌, [], ◌∷◌, length, MatchOption, None};
-ghost use Rattle.wt_refute.specs.Placed.{placed, window_shape as the_shape, tile_in as the_tile_in, is_free as the_is_free, right_of as the_right, above as the_above, left_of as the_left, below as the_below, may_join as may_stand, fits as it_fits, passing};
+ghost use Rattle.wt_refute.specs.Placed.{placed, tile_in as the_tile_in, is_free as the_is_free, right_of as the_right, above as the_above, left_of as the_left, below as the_below, may_join as may_stand, fits as it_fits, passing};
 
 use wt_tile::{Axis, Tile, is_match};
-
-/// The width and height of the window round two tiles that follow each other along the axis.
-pub fn shape_of(axis: Axis, radius: u8) -> (usize, usize)
-    ensures { result ≡ the_shape axis radius }
-{
-    let side = 2 * usize::from(radius) + 1;
-    match axis {
-        Axis::One => (side + 1, side),
-        Axis::Two => (side, side + 1),
-    }
-}
 
 pub fn tile_in(shape: (usize, usize), cells: &[Option<u16>], cell: usize) -> Option<u16>
     ensures { result ≡ the_tile_in (placed shape cells.now) cell }

@@ -84,3 +84,9 @@ few_next old now new e v k few h =
 
 pub added_next : (old now new : List Edge) (e : Edge) → old ≡ now → new ≡ with_edge old e → (Contains now e → ⊥) → new ≡ now ++ e ∷ []
 added_next old now new e v k h = rw (k, v) (added_last now e h)
+
+same_number : (es : List Edge) (i j : ℕ) (a b : Edge) → slice_get es i ≡ Some a → slice_get es j ≡ Some b → i ≡ j → a ≡ b
+same_number es i j a b p q e = let h : slice_get es j ≡ Some a = rw e at p in cc
+
+pub tell_edges : (es : List Edge) (i j : ℕ) (a b : Edge) → IsNumbering es → slice_get es i ≡ Some a → slice_get es j ≡ Some b → (i ≡ j) ↔ (a ≡ b)
+tell_edges es i j a b n p q = (same_number es i j a b p q, λ e. n.once i j b (p ∙ ap (λ (x : Edge). Some x) e) q)

@@ -4,6 +4,7 @@
 mod checks;
 mod colours;
 mod fusion;
+mod laws;
 mod matching;
 mod name;
 mod set;
@@ -14,6 +15,7 @@ mod tile;
 pub use checks::{colour_fault, place_of};
 pub use colours::{ColourFault, Colours};
 pub use fusion::{Edge, Fused, fuse};
+pub use laws::{numbers_tell_edges, tile_sets};
 pub use matching::{ahead, behind, is_match, same_axis, tile_at};
 pub use name::Name;
 pub use set::{SetRef, TileSet, set_fault};

@@ -1,5 +1,5 @@
 // What no clause says: faults of lists that were worked out by hand, and each call once.
-ghost use Rattle.std.specs.Prelude.{◌≤◌};
+ghost use Rattle.std.specs.Prelude.{◌≡◌, ◌≤◌};
 
 use crate::{
     Axis, Colours, Edge, Name, SetFault, SetRef, Tile, TileList, TileSet, fuse, set_fault,
@@ -8,7 +8,9 @@ use std::alloc::{AllocError, Global};
 use std::test::Fail;
 use wt_seq::Seq;
 
-fn tile(east: u16, north: u16, west: u16, south: u16) -> Tile {
+fn tile(east: u16, north: u16, west: u16, south: u16) -> Tile
+    ensures { result ≡ record { east = east; north = north; west = west; south = south } }
+{
     Tile {
         east,
         north,

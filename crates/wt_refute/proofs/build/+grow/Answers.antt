@@ -1,7 +1,7 @@
 use Rattle.std.proofs.Common.{arith, ◌≡◌, ◌+◌, ◌-◌, ◌<◌, length, ℕ, true, nat_lt, List, [], ◌∷◌, ◌++◌, Option, None, Some, subst, refl, ap, sym, ◌∙◌}
 use Rattle.std.proofs.lemmas.Bool.{and_parts, ltb-true}
 use Rattle.wt_refute.specs.Refutation.{branch, node_count, count_in}
-use Rattle.wt_refute.specs.View.{refutation, children_view}
+use Rattle.wt_refute.specs.View.{children_view}
 use Rattle.wt_refute.specs.Placed.{placed, place, tile_in, is_free, is_vacant, fits, fitting, passing}
 use Rattle.wt_refute.proofs.Walked.{taken_back}
 use Rattle.wt_refute.specs.Standard.{tree_within, first_citation, tightest, branches_with}

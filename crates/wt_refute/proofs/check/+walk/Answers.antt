@@ -1,10 +1,9 @@
-use Rattle.std.proofs.Common.{◌≡◌, ◌+◌, None, Some, true, subst, ℕ, Option, List, ap, sym, ◌∙◌, arith, drop}
+use Rattle.std.proofs.Common.{◌≡◌, ◌+◌, Some, ℕ, Option, List, ap, sym, ◌∙◌, arith, drop}
 use Rattle.std.specs.Option.{option_map}
-use Rattle.wt_refute.specs.declared.tree.Child.{Child}
-use Rattle.wt_refute.specs.Refutation.{tiles_in, held, more}
+use Rattle.wt_refute.specs.Refutation.{held, more}
 use Rattle.wt_refute.specs.View.{refutation, children_view}
 use Rattle.wt_refute.specs.Placed.{placed}
-use Rattle.wt_refute.specs.Refutes.{is_branching, first_wrong, first_wrong_in}
+use Rattle.wt_refute.specs.Refutes.{first_wrong_in}
 use Rattle.wt_refute.proofs.Children.{view_more}
 use Rattle.wt_refute.proofs.Walked.{taken_back, step_left, step_wrong, step_count}
 use Rattle.wt_refute.proofs.check.+walk.Goals as goal

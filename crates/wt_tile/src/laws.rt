@@ -1,0 +1,17 @@
+// What sets and numbers of colours mean, as theorems: each is the contract of a function that does nothing.
+ghost use Rattle.std.specs.Prelude.{◌≡◌, ℕ, List, None, Some, slice_get, ◌↔◌};
+ghost use Rattle.wt_tile.specs.declared.tile.TileList.{TileList};
+ghost use Rattle.wt_tile.specs.declared.fusion.Edge.{Edge};
+ghost use Rattle.wt_tile.specs.Colours.{IsNumbering};
+ghost use Rattle.wt_tile.specs.Sets.{set_fault as first_fault, IsTileSet};
+
+/// A list has no fault exactly where it is a tile set.
+pub fn tile_sets()
+    ensures sound { (l : TileList) → first_fault l ≡ None → IsTileSet l }
+    ensures complete { (l : TileList) → IsTileSet l → first_fault l ≡ None }
+{}
+
+/// Numbers of edges are equal exactly where the edges are.
+pub fn numbers_tell_edges()
+    ensures { (edges : List Edge) (i j : ℕ) (a b : Edge) → IsNumbering edges → slice_get edges i ≡ Some a → slice_get edges j ≡ Some b → (i ≡ j) ↔ (a ≡ b) }
+{}
