@@ -19,6 +19,7 @@ pub enum LinkRef<'a> {
 }
 
 impl<'a> RestrictRef<'a> {
+    /// The step as it was read, borrowed.
     pub fn raw(self) -> &'a RawRestrict
         ensures { result.now ≡ self.entry.raw.now }
     {

@@ -6,7 +6,7 @@ use crate::step::step_fault;
 use crate::{RawStep, StepFault};
 use std::marker::Model;
 
-/// A good step.
+/// A good marker step. Contracts see the `RawStep`.
 #[derive(Drop)]
 pub struct Step {
     raw: RawStep,
@@ -28,14 +28,14 @@ impl Model for Step {
     ghost invariant = { λ s. step_fault s.raw ≡ None };
 }
 
-/// A good step, borrowed.
+/// A good marker step, borrowed.
 #[derive(Clone, Copy)]
 pub struct StepRef<'a> {
     pub raw: &'a RawStep,
     pub ghost good: { first_fault raw.now ≡ None },
 }
 
-/// Takes a good step, or tells its first failing condition.
+/// Takes a good marker step, or gives it back with its first failing condition. Takes no memory.
 pub fn accept_step(raw: RawStep) -> Result<Step, (RawStep, StepFault)>
     ensures { MatchResult result
         (λ step. (step ≡ raw) × (first_fault raw ≡ None))
@@ -48,12 +48,14 @@ pub fn accept_step(raw: RawStep) -> Result<Step, (RawStep, StepFault)>
 }
 
 impl Step {
+    /// The step, borrowed.
     pub fn view(&self) -> StepRef<'_>
         ensures { result.raw.now ≡ self.now }
     {
         StepRef { raw: &self.raw }
     }
 
+    /// The step as it was read. Takes no memory.
     pub fn into_raw(self) -> RawStep
         ensures same { result ≡ self }
         ensures good { first_fault result ≡ None }
@@ -71,6 +73,7 @@ impl<'a> StepRef<'a> {
         StepRef { raw }
     }
 
+    /// The step as it was read, borrowed.
     pub fn raw(self) -> &'a RawStep
         ensures { result.now ≡ self.entry.raw.now }
     {

@@ -10,7 +10,7 @@ use crate::{LinkRef, RawLink, RestrictRef, Step, StepFault, StepRef};
 use std::marker::Model;
 use wt_tile::SetRef;
 
-/// A good step of either kind.
+/// A good step of either kind. Contracts see the `RawLink`.
 #[derive(Drop)]
 pub struct Link {
     raw: RawLink,
@@ -32,7 +32,7 @@ impl Model for Link {
     ghost invariant = { λ l. link_fault l.raw ≡ None };
 }
 
-/// The first failing condition of a step, or none.
+/// The first failing condition of a step, or none exactly where it is good. Takes no memory.
 #[tactic(auto, unfolding(crate::specs::Links::link_fault))]
 pub fn link_fault(raw: &RawLink) -> Option<StepFault>
     ensures { result ≡ first_fault raw.now }
@@ -43,7 +43,7 @@ pub fn link_fault(raw: &RawLink) -> Option<StepFault>
     }
 }
 
-/// Takes a good step of either kind, or tells its first failing condition.
+/// Takes a good step of either kind, or gives it back with its first failing condition. Takes no memory.
 pub fn accept_link(raw: RawLink) -> Result<Link, (RawLink, StepFault)>
     ensures { MatchResult result
         (λ link. (link ≡ raw) × (first_fault raw ≡ None))
@@ -66,12 +66,14 @@ impl Link {
         }
     }
 
+    /// The step, borrowed.
     pub fn view(&self) -> LinkRef<'_>
         ensures { link_of result ≡ self.now }
     {
         LinkRef::new(&self.raw)
     }
 
+    /// The step as it was read. Takes no memory.
     pub fn into_raw(self) -> RawLink
         ensures same { result ≡ self }
         ensures good { first_fault result ≡ None }

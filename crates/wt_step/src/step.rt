@@ -296,7 +296,8 @@ fn rules_fault(raw: &RawStep) -> Option<StepFault>
     join_fault(raw, Axis::Two)
 }
 
-/// The first failing condition.
+/// The first failing condition of a marker step, in the order of `StepFault`'s variants, at its first
+/// place; none exactly where it is good (`good_steps`). Takes no memory.
 #[tactic(auto, unfolding(crate::specs::Faults::step_fault))]
 pub fn step_fault(raw: &RawStep) -> Option<StepFault>
     ensures { result ≡ first_fault raw.now }
