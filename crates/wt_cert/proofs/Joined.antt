@@ -1,13 +1,13 @@
 -- More readers put together: words that tell kinds apart, values seen as others, parts that go by the line before them.
-use Rattle.std.proofs.Common.{rules, ◌≡◌, ℕ, Bool, true, false, cond, List, [], ◌∷◌, ◌++◌, Option, Some, None, Result, Ok, Err, refl, sym, ap, ◌∙◌, append_assoc, subst}
+use Rattle.std.proofs.Common.{◌≡◌, ℕ, Bool, true, false, cond, List, [], ◌∷◌, ◌++◌, Option, Some, None, Result, Ok, Err, refl, sym, ap, ◌∙◌, append_assoc, subst}
 use Rattle.std.specs.Str.{bytes_eq}
 use Rattle.std.proofs.lemmas.Slice.Eq.{bytes_eq-Decides}
 use Rattle.wt_text.specs.Lines.{Line}
-use Rattle.wt_text.specs.Readers.{◌>>=◌, ◌then◌, TextFault, given, mapped, seen_value, Either, first, second, either_behind, seen_as, part_behind, no_part, many_parts}
-use Rattle.wt_text.specs.Spellings.{IsClean, AllFit, FitInTurn, flat}
+use Rattle.wt_text.specs.Readers.{TextFault, given, mapped, seen_value, Either, first, second, either_behind, seen_as, part_behind, no_part}
+use Rattle.wt_text.specs.Spellings.{IsClean, AllFit}
 use Rattle.wt_text.proofs.Split.{AllClean}
-use Rattle.wt_text.proofs.Formats.{IsFormat, bind_some, read_is, clean_both}
-use Rattle.wt_text.proofs.Texts.{IsPart, then_ok, ok_pair, clean_lines, no_lines, many_part}
+use Rattle.wt_text.proofs.Formats.{IsFormat, read_is}
+use Rattle.wt_text.proofs.Texts.{IsPart, then_ok, ok_pair, clean_lines, no_lines}
 
 -- ---- in a line
 

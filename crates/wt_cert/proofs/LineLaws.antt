@@ -1,5 +1,5 @@
 -- The lines of a certificate, both ways.
-use Rattle.std.proofs.Common.{rules, arith, ◌≡◌, ◌⊎◌, inl, inr, ℕ, suc, ◌+◌, ◌≤◌, ◌<◌, ◌^◌, Bool, true, false, cond, nat_eq, List, [], ◌∷◌, ◌++◌, length, Option, Some, None, Result, Ok, Err, refl, sym, ap, ◌∙◌, subst, codes}
+use Rattle.std.proofs.Common.{rules, arith, ◌≡◌, ◌⊎◌, inl, inr, ℕ, ◌≤◌, ◌<◌, ◌^◌, Bool, true, false, cond, nat_eq, List, [], ◌∷◌, ◌++◌, Option, Some, None, Result, Ok, Err, refl, ap, ◌∙◌, subst, codes}
 use Rattle.std.specs.Fmt.{decimal}
 use Rattle.std.proofs.lemmas.Bool.{eqb-false}
 use Rattle.std.proofs.lemmas.Bool.Decides.{nat_tests}
@@ -11,19 +11,18 @@ use Rattle.wt_tile.specs.declared.tile.Side.{Side}
 use Rattle.wt_tile.specs.declared.tile.Side.TheVariants.{After, Before}
 use Rattle.wt_morphism.specs.declared.image.Image.{Image}
 use Rattle.wt_morphism.specs.declared.image.Image.TheVariants as images
-use Rattle.wt_refute.specs.Refutation.{Refutation}
 use Rattle.wt_chain.specs.declared.raw.Version.{Version}
 use Rattle.wt_chain.specs.declared.raw.Version.TheVariants as versions
 use Rattle.wt_text.specs.Words.{number}
-use Rattle.wt_text.specs.Readers.{◌>>=◌, pair, mapped, within, number_to, either_word, given, Either, first, second, behind, both, whole}
+use Rattle.wt_text.specs.Readers.{pair, mapped, within, either_word, Either, first, second}
 use Rattle.wt_text.specs.Spellings.{IsClean, AllFit, IsSome, number_spelling}
 use Rattle.wt_text.proofs.Numbers.{number_found, number_again, decimal_clean}
 use Rattle.wt_text.proofs.Formats.{IsFormat, IsLine, bind_some, read_is, pair_ok, within_ok, within_again, number_format, both_format, behind_format, whole_line}
-use Rattle.wt_text.proofs.Last.{IsLast, last_of, both_last, behind_last, whole_last, word_format, numbers_last}
+use Rattle.wt_text.proofs.Last.{IsLast, both_last, behind_last, whole_last, word_format, numbers_last}
 use Rattle.wt_cert.specs.LineForms.{small, radius, axis, side, alone_form, count_form, numbers_form, version_form, step_count, steps_form, marker_head, restrict_head, Head, kind_of_step, head_form, allowed_form, pair_form, may_cite, radius_in, refuted_form, lost_form, image_of, image_behind, image, image_form, end_form}
 use Rattle.wt_cert.specs.Spelling.{count_tokens, numbers_tokens, version_word, axis_digit, side_word, pair_tokens, radius_tokens, image_tokens}
 use Rattle.wt_cert.specs.Fits.{IsSmall, NumbersFit, PairFits, RadiusFits, ImageFits}
-use Rattle.wt_cert.specs.Trees.{tree_to_end, tree_spelling, TreeFits}
+use Rattle.wt_cert.specs.Trees.{tree_spelling, TreeFits}
 use Rattle.wt_cert.proofs.TreeLines.{tree_last}
 use Rattle.wt_cert.proofs.Joined.{given_format, first_format, FirstFits, either_format, either_spelling, EitherFits, same_format}
 

@@ -1,7 +1,6 @@
 -- The parts of a certificate, both ways.
-use Rattle.std.proofs.Common.{rules, arith, ◌≡◌, ℕ, suc, ◌+◌, ◌≤◌, ◌<◌, ◌^◌, true, List, [], ◌∷◌, ◌++◌, length, Result, refl, sym, ap, ◌∙◌, append_assoc, subst, codes}
+use Rattle.std.proofs.Common.{rules, arith, ◌≡◌, ℕ, suc, ◌+◌, ◌≤◌, ◌<◌, ◌^◌, true, List, [], ◌∷◌, ◌++◌, length, refl, sym, ap, subst, codes}
 use Rattle.std.specs.Fmt.{decimal}
-use Rattle.wt_line.specs.declared.faults.What.{What}
 use Rattle.wt_line.specs.declared.faults.What.TheVariants.{Tiles, Pairs}
 use Rattle.wt_tile.specs.declared.tile.Axis.{Axis}
 use Rattle.wt_tile.specs.declared.tile.Side.{Side}
@@ -22,18 +21,18 @@ use Rattle.wt_chain.specs.declared.raw.End.TheVariants.{Open, Loop}
 use Rattle.wt_chain.specs.declared.raw.RawChain.{RawChain}
 use Rattle.wt_text.specs.Lines.{Line, line_of}
 use Rattle.wt_text.specs.Readers.{Either, first, second}
-use Rattle.wt_text.specs.Spellings.{IsClean, AllFit, line_spelling, flat, FitInTurn, flat_in_turn}
+use Rattle.wt_text.specs.Spellings.{IsClean, AllFit, line_spelling, FitInTurn, flat_in_turn}
 use Rattle.wt_text.proofs.Texts.{IsPart, line_part, both_part, counted_part}
 use Rattle.wt_text.proofs.Bounded.{bounded_part}
-use Rattle.wt_pattern.specs.TileRows.{no_state, rows_spelling, IsListed}
+use Rattle.wt_pattern.specs.TileRows.{no_state}
 use Rattle.wt_pattern.proofs.SetTexts.{tiles_law, listed_fits, fits_listed}
 use Rattle.wt_cert.specs.LineForms.{Head, may_cite}
 use Rattle.wt_cert.specs.Trees.{tree_spelling, TreeFits}
 use Rattle.wt_cert.specs.Values.{tree_of}
 use Rattle.wt_cert.specs.Parts.{tiles_part, numbers_part, allowed_part, to_refuted, refuted_row, with_refuted, refuted_part, to_lost, lost_row, with_lost, lost_part, images_part, to_marker, marker_part, to_restrict, restrict_part, block_part, link_part, with_link, next_step, steps_part, to_loop, end_behind, end_part, to_chain, chain_part, cert_part}
 use Rattle.wt_cert.specs.Seen.{refuted_view, lost_view}
-use Rattle.wt_cert.specs.Spelling.{line, count_tokens, numbers_tokens, version_word, axis_digit, pair_tokens, image_tokens, tiles_lines, allowed_lines, radius_tokens, refuted_tokens, refuted_lines, lost_tokens, lost_lines, images_lines, marker_lines, restrict_lines, link_lines, blocks_lines, end_lines, cert_lines}
-use Rattle.wt_cert.specs.Fits.{IsSmall, TilesFit, NumbersFit, PairFits, PairsFit, ImageFits, ImagesFit, RadiusFits, RefutedFits, LostFits, RefutedListFits, LostListFits, MarkerFits, RestrictFits, LinkFits, EndFits, IsWritable}
+use Rattle.wt_cert.specs.Spelling.{line, count_tokens, numbers_tokens, axis_digit, tiles_lines, allowed_lines, radius_tokens, refuted_tokens, refuted_lines, lost_tokens, lost_lines, images_lines, marker_lines, restrict_lines, link_lines, blocks_lines, end_lines, cert_lines}
+use Rattle.wt_cert.specs.Fits.{TilesFit, NumbersFit, PairFits, PairsFit, ImageFits, ImagesFit, RefutedFits, LostFits, RefutedListFits, LostListFits, LinkFits, EndFits, IsWritable}
 use Rattle.wt_cert.proofs.Standing.{refutation_of_tree, refuted_again, lost_again}
 use Rattle.wt_cert.proofs.Joined.{seen_by, same_part, behind_part, none_part}
 use Rattle.wt_cert.proofs.LineLaws.{alone_line, count_line, numbers_line, version_line, steps_line, KindFits, kind_tokens, head_line, allowed_line, pair_line, refuted_line, lost_line, image_line, end_tokens, EndLineFits, end_line}

@@ -1,4 +1,3 @@
-use Rattle.std.proofs.Common.{◌≡◌}
 use Rattle.wt_text.specs.Readers.{whole_text}
 use Rattle.wt_text.proofs.Texts.{IsWhole, text_whole}
 use Rattle.wt_cert.specs.Fits.{IsWritable}
