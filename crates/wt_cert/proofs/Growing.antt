@@ -1,5 +1,5 @@
 -- Branches read one after the other, as a loop does.
-use Rattle.std.proofs.Common.{◌≡◌, ℕ, suc, ◌-◌, ◌+◌, ◌≤◌, ◌<◌, List, [], ◌∷◌, ◌++◌, Result, Ok, Err, refl, sym, ap, ◌∙◌, append_assoc, arith, Bool, map, zero, ◌≢◌}
+use Rattle.std.proofs.Common.{◌≡◌, ℕ, suc, ◌-◌, ◌+◌, ◌≤◌, ◌<◌, List, [], ◌∷◌, ◌++◌, Result, Ok, Err, refl, sym, ap, ◌∙◌, arith, Bool, zero}
 use Rattle.wt_line.specs.declared.faults.What.{What}
 use Rattle.wt_line.specs.declared.faults.What.TheVariants.{Number}
 use Rattle.wt_line.specs.declared.faults.LineFault.{LineFault}
@@ -10,8 +10,7 @@ use Rattle.wt_text.specs.Readers as words
 use Rattle.wt_text.specs.Readers.{◌then◌}
 use Rattle.wt_refute.specs.Refutation.{Refutation, Branches, no_more, more, node_count, count_in}
 use Rattle.wt_refute.specs.Refutation.{branch}
-use Rattle.wt_refute.specs.declared.tree.Tree.{Tree, Branch}
-use Rattle.wt_refute.specs.View.{refutation, child_view, branches_of}
+use Rattle.wt_refute.specs.View.{branches_of}
 use Rattle.wt_cert.specs.Seen.{led_by}
 use Rattle.wt_cert.specs.Trees.{limited, branches_in, tree_in, cell_in, ending, ending_in, children}
 

@@ -1,7 +1,6 @@
 -- The refutation that a tree stands for, and the tree that stands for a refutation.
-use Rattle.std.proofs.Common.{rules, ◌≡◌, ℕ, List, map, ap, sym, ◌∙◌}
-use Rattle.wt_tile.specs.declared.tile.Axis.{Axis}
-use Rattle.wt_refute.specs.declared.tree.Tree.{Tree, Branch, Cite}
+use Rattle.std.proofs.Common.{◌≡◌, ℕ, List, map, ap, sym, ◌∙◌}
+use Rattle.wt_refute.specs.declared.tree.Tree.{Tree, Branch}
 use Rattle.wt_refute.specs.declared.tree.Tree.TheVariants.{rolls-Branch}
 use Rattle.wt_refute.specs.declared.tree.Tree.TheFolds.{fold-roll-Tree, fold-roll-Child}
 use Rattle.wt_refute.specs.declared.tree.Tree.TheOpen as open'

@@ -1,5 +1,5 @@
 -- An image of one tile or of two.
-use Rattle.std.proofs.Common.{◌≡◌, ℕ, Bool, true, false, List, [], ◌∷◌, Option, Some, None, Result, Ok, Err, refl}
+use Rattle.std.proofs.Common.{◌≡◌, ℕ, Bool, true, false, List, [], ◌∷◌, Option, Some, Result, refl}
 use Rattle.wt_line.specs.declared.faults.What.{What}
 use Rattle.wt_line.specs.Given.{left}
 use Rattle.wt_morphism.specs.declared.image.Image.{Image}

@@ -1,8 +1,11 @@
 pub mod Grown
 pub mod Images
+pub mod LineLaws
 pub mod Lines
+pub mod Joined
 pub mod Literals
 pub mod NumberLists
+pub mod PartLaws
 pub mod ReadRows
 pub mod Standing
 pub mod States

@@ -1,5 +1,5 @@
 -- A token is a number's decimal exactly where it spells the number.
-use Rattle.std.proofs.Common.{arith, ◌≡◌, ◌≢◌, ◌<◌, ◌^◌, ◌-◌, ℕ, List, Bool, true, false, Option, Some, None, min, refl, sym, ap, ◌∙◌}
+use Rattle.std.proofs.Common.{arith, ◌≡◌, ◌≢◌, ◌<◌, ◌^◌, ◌-◌, ℕ, List, Bool, true, false, Option, Some, None, min, refl, ap, ◌∙◌}
 use Rattle.std.specs.Str.{bytes_eq}
 use Rattle.std.specs.Fmt.{decimal}
 use Rattle.std.proofs.lemmas.Slice.Eq.{bytes_eq-Decides}

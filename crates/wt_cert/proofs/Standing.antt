@@ -1,12 +1,11 @@
 -- Trees and refutations stand for one another.
-use Rattle.std.proofs.Common.{rules, ◌≡◌, ℕ, List, [], ◌∷◌, map, ap, sym, refl, ◌∙◌}
+use Rattle.std.proofs.Common.{◌≡◌, ℕ, map, ap, sym, refl, ◌∙◌}
 use Rattle.wt_tile.specs.declared.tile.Axis.{Axis}
 use Rattle.wt_refute.specs.declared.tree.Tree.{Tree, Branch, Cite, Branch', Row_of-Child, end_of-Child, more_of-Child, items-the_row-Child, items_shown-the_row-Child-0, out-Tree, roll-Tree, roll-out-Tree}
 use Rattle.wt_refute.specs.declared.tree.Tree.TheVariants.{rolls-Branch, rolls-Cite}
 use Rattle.wt_refute.specs.declared.tree.Tree.TheFolds.{fold-roll-Tree}
 use Rattle.wt_refute.specs.declared.tree.Tree.TheBlock.{shown-the_row-Child-0}
 use Rattle.wt_refute.specs.declared.tree.Tree.TheOpen as open'
-use Rattle.wt_refute.specs.declared.tree.Child.{Child, roll-Child}
 use Rattle.wt_refute.specs.Refutation.{Refutation, Branches, branch, cite, no_more, more}
 use Rattle.wt_refute.specs.View.{refutation, child_view, branches_of, tree_step, child_step}
 use Rattle.wt_refute.specs.declared.tree.Refuted.{Refuted}

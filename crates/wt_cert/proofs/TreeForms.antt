@@ -1,9 +1,9 @@
 -- The form of a tree, by what is owed.
-use Rattle.std.proofs.Common.{rules, arith, ◌≡◌, ◌⊎◌, inl, inr, ℕ, zero, suc, ◌+◌, ◌-◌, ◌≤◌, ◌<◌, ◌^◌, min, Bool, true, false, cond, not, ◌&&◌, nat_lt, nat_eq, List, [], ◌∷◌, ◌++◌, length, Option, Some, None, refl, sym, ap, ◌∙◌}
-use Rattle.wt_text.specs.Words.{tokens, in_first, is_decimal, number, value_from}
+use Rattle.std.proofs.Common.{arith, ◌≡◌, ◌⊎◌, inl, inr, ℕ, zero, suc, ◌+◌, ◌-◌, ◌≤◌, ◌<◌, ◌^◌, min, Bool, true, false, cond, not, ◌&&◌, nat_eq, List, [], ◌∷◌, length, Option, Some, None, refl, sym, ap, ◌∙◌}
+use Rattle.wt_text.specs.Words.{tokens, in_first, is_decimal}
 use Rattle.wt_text.specs.Spellings.{IsSome}
 use Rattle.wt_text.proofs.Split.{some_tokens}
-use Rattle.wt_line.specs.Given.{left, held, room}
+use Rattle.wt_line.specs.Given.{left, room}
 use Rattle.wt_cert.specs.Trees.{Ending, children, cites, ending, is_ending, owed_by, held_owed, is_forest, is_tree}
 
 no_and : (a : Bool) → (a && false) ≡ false

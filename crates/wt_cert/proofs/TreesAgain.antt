@@ -1,20 +1,17 @@
 -- A tree that fits is read from its spelling.
-use Rattle.std.proofs.Common.{rules, arith, ◌≡◌, ◌≢◌, ℕ, zero, suc, ◌+◌, ◌≤◌, ◌<◌, ◌^◌, Bool, true, false, cond, ◌&&◌, nat_le, nat_lt, nat_eq, List, [], ◌∷◌, ◌++◌, length, Option, Some, None, Result, Ok, Err, codes, option_map, refl, sym, ap, ◌∙◌, append_assoc, subst}
+use Rattle.std.proofs.Common.{arith, ◌≡◌, ℕ, zero, suc, ◌+◌, ◌≤◌, ◌<◌, ◌^◌, Bool, true, false, ◌&&◌, List, ◌∷◌, ◌++◌, Some, Ok, codes, refl, ap, ◌∙◌, append_assoc}
 use Rattle.std.specs.Str.{bytes_eq, all_ascii_digits}
 use Rattle.std.specs.Fmt.{decimal}
 use Rattle.std.proofs.lemmas.Bool.{le-leb, lt-ltb}
 use Rattle.std.proofs.lemmas.Slice.Eq.{bytes_eq-Decides}
 use Rattle.wt_line.specs.declared.faults.What.{What}
-use Rattle.wt_line.specs.declared.faults.What.TheVariants.{Tiles, Nodes, Depth, Number}
+use Rattle.wt_line.specs.declared.faults.What.TheVariants.{Number}
 use Rattle.wt_text.specs.Words.{number, is_decimal}
-use Rattle.wt_text.specs.Spellings.{IsClean, AllFit}
-use Rattle.wt_text.specs.Readers.{◌then◌, LineFault, wrong, past}
-use Rattle.wt_text.proofs.Numbers.{number_again, is_decimal_again, decimal_digits, decimal_clean}
-use Rattle.wt_text.proofs.Formats.{clean_both}
+use Rattle.wt_text.proofs.Numbers.{number_again, is_decimal_again, decimal_digits}
 use Rattle.wt_tile.specs.declared.tile.Axis.{Axis}
 use Rattle.wt_tile.specs.declared.tile.Axis.TheVariants.{One, Two}
 use Rattle.wt_refute.specs.Refutation.{Refutation, Branches, branch, cite, no_more, more, node_count}
-use Rattle.wt_cert.specs.Trees.{branch_count, axis_word, tree_spelling, branches_spelling, Ending, children, cites, ending, is_ending, owed_by, is_forest, is_tree, limited, cell_in, ending_in, branches_in, grown, tree_in, found_tree, tree_to_end, TreeFits, BranchesFit}
+use Rattle.wt_cert.specs.Trees.{branch_count, axis_word, tree_spelling, branches_spelling, children, cites, ending, is_forest, limited, cell_in, branches_in, tree_in, TreeFits, BranchesFit}
 
 pub small_again : (what : What) (n : ℕ) → n ≤ 65535 → limited 65535 what (number (decimal n)) ≡ Ok n
 small_again what n le = rw (number_again n (omega arith), le-leb n 65535 le) refl

@@ -1,5 +1,5 @@
 -- The parts of a certificate, line by line.
-use Rattle.std.specs.Prelude.{◌≡◌, ℕ, ◌+◌, List, [], ◌∷◌, Result, Ok, Err, codes}
+use Rattle.std.specs.Prelude.{ℕ, ◌+◌, List, Result, codes}
 use Rattle.wt_tile.specs.declared.tile.Axis.{Axis}
 use Rattle.wt_tile.specs.declared.tile.Side.{Side}
 use Rattle.wt_tile.specs.declared.tile.TileList.{TileList}
@@ -10,8 +10,6 @@ use Rattle.wt_refute.specs.Refutation.{Refutation, node_count}
 use Rattle.wt_refute.specs.View.{refutation}
 use Rattle.wt_refute.specs.declared.tree.Refuted.{Refuted}
 use Rattle.wt_step.specs.declared.raw.Lost.{Lost}
-use Rattle.wt_step.specs.declared.raw.RawStep.{RawStep}
-use Rattle.wt_step.specs.declared.raw.RawRestrict.{RawRestrict}
 use Rattle.wt_step.specs.declared.raw.RawLink.{RawLink}
 use Rattle.wt_step.specs.declared.raw.RawLink.TheVariants.{Marker, Restrict}
 use Rattle.wt_chain.specs.declared.raw.Version.{Version}

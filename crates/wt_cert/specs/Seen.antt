@@ -3,7 +3,6 @@ use Rattle.std.specs.Prelude.{ℕ, List, [], ◌∷◌, ◌++◌, Result, Ok, Er
 use Rattle.wt_line.specs.declared.places.Place.{Place}
 use Rattle.wt_text.specs.Lines.{Line, lines}
 use Rattle.wt_tile.specs.declared.tile.Axis.{Axis}
-use Rattle.wt_tile.specs.declared.tile.Side.{Side}
 use Rattle.wt_refute.specs.Refutation.{Refutation, Branches, more}
 use Rattle.wt_refute.specs.View.{refutation}
 use Rattle.wt_refute.specs.declared.tree.Refuted.{Refuted}

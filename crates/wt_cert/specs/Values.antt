@@ -1,5 +1,5 @@
 -- The tree that stands for a refutation.
-use Rattle.std.specs.Prelude.{ℕ, List, [], ◌∷◌}
+use Rattle.std.specs.Prelude.{List, [], ◌∷◌}
 use Rattle.wt_refute.specs.declared.tree.Tree.{Tree, Branch, Cite}
 use Rattle.wt_refute.specs.declared.tree.Child.{Child, roll-Child}
 use Rattle.wt_refute.specs.Refutation.{Refutation, Branches, branch, cite, no_more, more}

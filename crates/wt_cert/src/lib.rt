@@ -1,13 +1,17 @@
-//! The text of a certificate.
+//! The text of a certificate: read with its exact value or its first fault, over both versions, steps of both kinds and both ends.
 #![tactic(auto)]
 
 mod build;
 mod cert;
 mod forms;
 mod heads;
+mod laws;
 mod lists;
 mod numbers;
 mod rows;
+#[cfg(test)]
+mod tests;
 mod words;
 
 pub use cert::{read_cert, read_chain};
+pub use laws::certificates_are_exact;

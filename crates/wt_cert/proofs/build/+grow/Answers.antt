@@ -1,16 +1,15 @@
-use Rattle.std.proofs.Common.{rules, arith, ◌≡◌, ◌≤◌, ◌+◌, ◌-◌, ℕ, List, [], ◌∷◌, ◌++◌, Ok, map, sym, ap, ◌∙◌}
+use Rattle.std.proofs.Common.{arith, ◌≡◌, ◌≤◌, ◌+◌, ℕ, List, [], ◌∷◌, ◌++◌, map, sym, ap, ◌∙◌}
 use Rattle.std.proofs.lemmas.Result.{err_from_is_err_and}
 use Rattle.std.proofs.lemmas.List.{map-append}
-use Rattle.wt_text.specs.Words.{number as number_of}
 use Rattle.wt_line.specs.Given.{left}
-use Rattle.wt_refute.specs.Refutation.{Refutation, branch, node_count, count_in, no_more}
-use Rattle.wt_refute.specs.View.{refutation, child_view, branches_of}
+use Rattle.wt_refute.specs.Refutation.{Refutation, node_count, no_more}
+use Rattle.wt_refute.specs.View.{refutation, child_view}
 use Rattle.wt_cert.proofs.Grown.{refutation_branch, child_of}
 use Rattle.wt_refute.specs.declared.tree.Tree.{Tree}
 use Rattle.wt_refute.specs.declared.tree.Child.{Child, roll-Child}
 use Rattle.wt_cert.specs.Trees.{tree_in, branches_in}
 use Rattle.wt_cert.specs.Seen.{led_by}
-use Rattle.wt_cert.proofs.Growing.{with_front, bad_tile, bad_tree, grows_on, count_led, led_is, tree_grown, bad_cell, bad_ending, bad_branches}
+use Rattle.wt_cert.proofs.Growing.{bad_tile, bad_tree, grows_on, count_led, led_is, tree_grown, bad_cell, bad_ending, bad_branches}
 use Rattle.wt_cert.proofs.build.+grow.Goals as goal
 
 pushed : (after before : List Child) (tile : ℕ) (tree : Tree) → after ≡ before ++ roll-Child (record { tile = tile; tree = tree }) ∷ [] → map child_view after ≡ map child_view before ++ (tile, refutation tree) ∷ []

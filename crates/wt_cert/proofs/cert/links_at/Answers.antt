@@ -1,8 +1,7 @@
-use Rattle.std.proofs.Common.{arith, ◌≡◌, ◌++◌, ◌∷◌, [], ℕ, ◌+◌, ◌-◌, sym, ap, ◌∙◌}
 use Rattle.std.proofs.lemmas.Result.{err_from_is_err_and}
 use Rattle.wt_text.specs.Readers.{many_parts}
 use Rattle.wt_line.proofs.Turns.{goes_on, ends}
-use Rattle.wt_cert.specs.Parts.{next_step, with_link}
+use Rattle.wt_cert.specs.Parts.{next_step}
 use Rattle.wt_cert.specs.Seen.{at, link_at_step}
 use Rattle.wt_cert.proofs.cert.links_at.Goals as goal
 

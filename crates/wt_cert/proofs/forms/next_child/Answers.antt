@@ -1,7 +1,6 @@
-use Rattle.std.proofs.Common.{rules, arith, ◌≡◌, ◌<◌, ◌-◌, ◌^◌, ℕ, true, length, sym, List, ◌∷◌}
+use Rattle.std.proofs.Common.{rules, arith, ◌≡◌, ◌<◌, ◌-◌, ◌^◌, true, length, sym}
 use Rattle.wt_text.specs.Words.{is_decimal}
-use Rattle.wt_line.specs.Given.{left, room}
-use Rattle.wt_cert.specs.Trees.{is_tree, is_forest, held_owed, ending}
+use Rattle.wt_line.specs.Given.{left}
 use Rattle.wt_cert.proofs.TreeForms.{child_form, left_few, room_small}
 use Rattle.wt_cert.proofs.forms.next_child.Goals as goal
 

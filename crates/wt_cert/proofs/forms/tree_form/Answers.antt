@@ -1,7 +1,7 @@
-use Rattle.std.proofs.Common.{rules, arith, ◌≡◌, ◌<◌, ◌≤◌, ◌-◌, ◌+◌, ◌^◌, ℕ, suc, true, length, sym, ap, ◌∙◌}
-use Rattle.wt_line.specs.Given.{left, room}
+use Rattle.std.proofs.Common.{arith, ◌≡◌, ◌<◌, ◌-◌, ◌+◌, ◌^◌, ℕ, suc, length, sym, ap, ◌∙◌}
+use Rattle.wt_line.specs.Given.{left}
 use Rattle.wt_cert.specs.Trees.{is_tree, is_forest}
-use Rattle.wt_cert.proofs.TreeForms.{held_same, left_few, room_small, none_owed}
+use Rattle.wt_cert.proofs.TreeForms.{held_same, none_owed}
 use Rattle.wt_cert.proofs.forms.tree_form.Goals as goal
 
 pub loop-owed-preserved : goal.loop-owed-preserved

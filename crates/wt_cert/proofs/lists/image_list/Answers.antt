@@ -1,11 +1,9 @@
-use Rattle.std.proofs.Common.{arith, ◌≡◌, ◌++◌, ◌∷◌, [], sym, ap, ◌∙◌}
 use Rattle.std.proofs.lemmas.Result.{err_from_is_err_and}
-use Rattle.wt_text.specs.Readers.{one_line, many_parts, left_by}
+use Rattle.wt_text.specs.Readers.{one_line, many_parts}
 use Rattle.wt_line.proofs.Turns.{goes_on, ends}
 use Rattle.wt_pattern.specs.TileRows.{no_state}
 use Rattle.wt_cert.specs.LineForms.{image_form}
 use Rattle.wt_cert.specs.Seen.{at}
-
 use Rattle.wt_cert.proofs.lists.image_list.Goals as goal
 
 pub returns-in_err-image : goal.returns-in_err-image

@@ -1,5 +1,5 @@
-use Rattle.std.proofs.Common.{◌≡◌, ◌≤◌, ◌-◌}
-use Rattle.wt_text.specs.Readers.{one_line, many_parts, left_by}
+use Rattle.std.proofs.Common.{◌≡◌, ◌-◌}
+use Rattle.wt_text.specs.Readers.{one_line, many_parts}
 use Rattle.wt_line.proofs.Turns.{with_front}
 use Rattle.wt_pattern.specs.TileRows.{no_state}
 use Rattle.wt_cert.specs.LineForms.{pair_form}

@@ -1,6 +1,6 @@
-use Rattle.std.proofs.Common.{arith, ◌≡◌, ◌++◌, ◌∷◌, [], ℕ, sym, ap, ◌∙◌}
+use Rattle.std.proofs.Common.{ℕ, ap, ◌∙◌}
 use Rattle.std.proofs.lemmas.Result.{err_from_is_err_and}
-use Rattle.wt_text.specs.Readers.{one_line, many_parts, left_by}
+use Rattle.wt_text.specs.Readers.{many_parts}
 use Rattle.wt_line.proofs.Turns.{goes_on, ends}
 use Rattle.wt_cert.specs.Parts.{refuted_row, with_refuted}
 use Rattle.wt_cert.specs.Seen.{at}

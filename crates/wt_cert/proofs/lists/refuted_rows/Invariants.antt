@@ -1,5 +1,5 @@
 use Rattle.std.proofs.Common.{◌≡◌, ◌≤◌, ◌-◌}
-use Rattle.wt_text.specs.Readers.{one_line, many_parts, left_by}
+use Rattle.wt_text.specs.Readers.{many_parts, left_by}
 use Rattle.wt_line.proofs.Turns.{with_front}
 use Rattle.wt_cert.specs.Parts.{refuted_row, with_refuted}
 use Rattle.wt_cert.specs.Seen.{at}

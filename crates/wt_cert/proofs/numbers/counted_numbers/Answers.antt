@@ -1,5 +1,5 @@
-use Rattle.std.proofs.Common.{rules, arith, ◌≡◌, ◌≤◌, ◌<◌, ◌^◌, ℕ, List, length, refl, sym, ap, ◌∙◌}
-use Rattle.wt_line.specs.Given.{left, room}
+use Rattle.std.proofs.Common.{arith, ◌≡◌, ◌≤◌, ◌<◌, ◌^◌, length, refl, sym}
+use Rattle.wt_line.specs.Given.{left}
 use Rattle.wt_text.specs.Words.{number}
 use Rattle.wt_text.specs.Readers.{mapped}
 use Rattle.wt_cert.proofs.NumberLists.{many_past}

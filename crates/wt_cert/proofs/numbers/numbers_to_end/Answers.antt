@@ -1,9 +1,9 @@
-use Rattle.std.proofs.Common.{rules, arith, ◌≡◌, ◌≤◌, ◌<◌, ◌^◌, ◌+◌, ℕ, length, sym, ap, ◌∙◌}
+use Rattle.std.proofs.Common.{arith, ◌<◌, ◌^◌, length, sym, ◌∙◌}
 use Rattle.std.proofs.lemmas.Result.{err_from_is_err_and}
 use Rattle.wt_line.specs.declared.faults.What.TheVariants.{Number}
-use Rattle.wt_line.specs.Given.{left, room}
+use Rattle.wt_line.specs.Given.{left}
 use Rattle.wt_text.specs.Readers.{mapped, numbers_to}
-use Rattle.wt_cert.proofs.NumberLists.{led, number_led, one_fewer, number_fails}
+use Rattle.wt_cert.proofs.NumberLists.{number_led, one_fewer, number_fails}
 use Rattle.wt_cert.proofs.TreeForms.{room_small}
 use Rattle.wt_cert.proofs.numbers.numbers_to_end.Goals as goal
 

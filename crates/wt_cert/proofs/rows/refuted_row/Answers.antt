@@ -1,11 +1,9 @@
-use Rattle.std.proofs.Common.{rules, ◌≡◌, ap, sym, ◌∙◌, List, ℕ}
+use Rattle.std.proofs.Common.{rules}
 use Rattle.std.proofs.lemmas.Result.{err_from_is_err_and}
 use Rattle.wt_line.specs.Given.{left}
 use Rattle.wt_refute.specs.View.{refutation}
 use Rattle.wt_text.specs.Words.{tokens}
 use Rattle.wt_text.specs.Readers.{mapped}
-use Rattle.wt_cert.specs.LineForms.{axis, small, radius_in, may_cite}
-use Rattle.wt_cert.specs.Trees.{tree_to_end}
 use Rattle.wt_cert.proofs.Lines.{refuted_fails}
 use Rattle.wt_cert.proofs.rows.refuted_row.Goals as goal
 
