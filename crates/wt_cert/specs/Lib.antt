@@ -3,3 +3,4 @@ pub mod Trees
 pub mod LineForms
 pub mod Parts
 pub mod Seen
+pub mod Spelling

@@ -9,11 +9,11 @@ ghost use Rattle.wt_refute.specs.View.{refutation, child_view};
 ghost use Rattle.wt_cert.specs.Trees.{limited, cell_in, ending, ending_in, tree_in, branches_in};
 ghost use Rattle.wt_cert.specs.Seen.{ending_view, led_by};
 
+use sqlite_items::Items;
+use std::alloc::Global;
 use wt_line::{LineFault, Rest, What, next_token, number};
 use wt_refute::{Child, Tree};
 use wt_tile::Axis;
-use sqlite_items::Items;
-use std::alloc::Global;
 
 const MOST: u64 = 65535;
 

@@ -38,11 +38,7 @@ fn step_count_at(place: Place<'_>) -> Result<(u32, Place<'_>), TextFault>
 }
 
 #[tactic(auto, unfolding(wt_text::specs::Readers::one_line))]
-fn head_at(
-    version: Version,
-    k: u32,
-    place: Place<'_>,
-) -> Result<(Head, Place<'_>), TextFault>
+fn head_at(version: Version, k: u32, place: Place<'_>) -> Result<(Head, Place<'_>), TextFault>
     ensures { ReadsText (λ x. (head_view x.0, at x.1)) result (one_line (head_form version k) (at place.entry)) }
 {
     let (line, next) = next_line(place)?;
@@ -222,10 +218,7 @@ fn chain_at<'a>(
 
 /// The chain of a certificate, and the place behind its last line.
 #[tactic(auto, unfolding(crate::specs::Parts::cert_part, wt_text::specs::Readers::part_behind))]
-pub fn read_chain(
-    alloc: Global,
-    place: Place<'_>,
-) -> Result<(RawChain, Place<'_>), TextFault>
+pub fn read_chain(alloc: Global, place: Place<'_>) -> Result<(RawChain, Place<'_>), TextFault>
     ensures { ReadsText (λ x. (x.0, at x.1)) result (cert_part (at place.entry)) }
 {
     let (version, place) = version_at(place)?;

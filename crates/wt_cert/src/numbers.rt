@@ -36,10 +36,7 @@ fn and_number(
 }
 
 /// The numbers to the end of a line, and how many they are.
-fn numbers_to_end(
-    alloc: Global,
-    rest: Rest<'_>,
-) -> Result<(Result<Vec<u16>, What>, u64), LineFault>
+fn numbers_to_end(alloc: Global, rest: Rest<'_>) -> Result<(Result<Vec<u16>, What>, u64), LineFault>
     ensures read { ReadsTokens (λ x. mapped (λ v. v.items) x.0) result (numbers_to 65535 Number (left rest.entry.more rest.entry.line.now)) }
     ensures count { IfOk result (λ x. x.1 ≡ length (left rest.entry.more rest.entry.line.now)) }
 {
@@ -56,10 +53,7 @@ fn numbers_to_end(
 }
 
 /// A count, and so many numbers to the end of the line.
-fn counted_numbers(
-    alloc: Global,
-    rest: Rest<'_>,
-) -> Result<Result<Vec<u16>, What>, LineFault>
+fn counted_numbers(alloc: Global, rest: Rest<'_>) -> Result<Result<Vec<u16>, What>, LineFault>
     ensures { ReadsTokens (λ x. (mapped (λ v. v.items) x, [])) result (counted_form 256 Tiles 65535 Number (left rest.entry.more rest.entry.line.now)) }
 {
     let Some((token, rest)) = next_token(rest) else {

@@ -5,7 +5,6 @@ use Rattle.wt_line.proofs.Turns.{goes_on, ends}
 use Rattle.wt_pattern.specs.TileRows.{no_state}
 use Rattle.wt_cert.specs.LineForms.{image_form}
 use Rattle.wt_cert.specs.Seen.{at}
-
 use Rattle.wt_cert.proofs.lists.image_list.Goals as goal
 
 pub returns-in_err-image : goal.returns-in_err-image

@@ -5,7 +5,6 @@ use Rattle.wt_line.proofs.Turns.{goes_on, ends}
 use Rattle.wt_pattern.specs.TileRows.{no_state}
 use Rattle.wt_cert.specs.LineForms.{pair_form}
 use Rattle.wt_cert.specs.Seen.{at}
-
 use Rattle.wt_cert.proofs.lists.pairs_at.Goals as goal
 
 pub returns-in_err-pair : goal.returns-in_err-pair
