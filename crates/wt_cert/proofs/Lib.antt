@@ -14,3 +14,5 @@ pub mod TreeForms
 pub mod TreesFound
 pub mod TreesAgain
 pub mod TreeLines
+pub mod Written
+pub mod Blocks

@@ -5,3 +5,4 @@ pub mod Parts
 pub mod Spelling
 pub mod Fits
 pub mod Seen
+pub mod Spelling

@@ -3,6 +3,7 @@
 
 mod build;
 mod cert;
+mod chains;
 mod forms;
 mod heads;
 mod laws;
@@ -12,6 +13,8 @@ mod rows;
 #[cfg(test)]
 mod tests;
 mod words;
+mod write;
 
 pub use cert::{read_cert, read_chain};
 pub use laws::certificates_are_exact;
+pub use chains::write_cert;
