@@ -1,7 +1,7 @@
 -- Colours that stand for colours, equal exactly where those are, are given by a map.
-use Rattle.std.proofs.Common.{arith, ◌≡◌, ◌<◌, ◌≤◌, ◌+◌, ℕ, zero, suc, Option, None, Some, unwrap_or, Bool, true, false, nat_eq, if◌then◌else◌, refl, sym, ◌∙◌, ap}
+use Rattle.std.proofs.Common.{arith, ◌≡◌, ◌<◌, ◌+◌, ℕ, zero, suc, Option, None, Some, unwrap_or, Bool, true, false, nat_eq, if◌then◌else◌, refl, sym, ◌∙◌}
 use Rattle.std.proofs.lemmas.Bool.Decides.{nat_tests}
-use Rattle.wt_grid.specs.First.{or_else, first_from}
+use Rattle.wt_grid.specs.First.{first_from}
 use Rattle.wt_grid.proofs.First.{none_from}
 
 -- an answer stands at one of the numbers
