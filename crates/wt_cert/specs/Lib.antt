@@ -5,4 +5,3 @@ pub mod Parts
 pub mod Spelling
 pub mod Fits
 pub mod Seen
-pub mod Spelling

@@ -16,5 +16,5 @@ mod words;
 mod write;
 
 pub use cert::{read_cert, read_chain};
-pub use laws::certificates_are_exact;
 pub use chains::write_cert;
+pub use laws::certificates_are_exact;
