@@ -1,0 +1,33 @@
+-- A period of a valid pattern is a period of its coarse pattern.
+use Rattle.std.proofs.Common.{arith, ◌≡◌, ◌≤◌, ◌<◌, ◌+◌, ℕ, Bool, true, false, cond}
+use Rattle.wt_tile.specs.Matching.{grid_axis}
+use Rattle.wt_pattern.specs.Patterns.{IsPattern}
+use Rattle.wt_grid.specs.Grid.{Grid, IsGrid, along, across}
+use Rattle.wt_grid.specs.Parts.{core}
+use Rattle.wt_grid.specs.Shifts.{HasVector}
+use Rattle.wt_grid.proofs.CarriedGrids.{core_repeated, carried_grid}
+use Rattle.wt_step.specs.declared.raw.RawStep.{RawStep}
+use Rattle.wt_step.specs.Words.{is_marker}
+use Rattle.wt_step.specs.Good.{GoodStep}
+use Rattle.wt_step.specs.Meaning.{line_side, allowing, pieces, IsCoarse}
+use Rattle.wt_scale.specs.Scales.{IsCarried}
+use Rattle.wt_step.proofs.Cores.{core_allowed}
+use Rattle.wt_step.proofs.Desubstitution.{the_table}
+
+lead : (opposed : Bool) (e n : ℕ) → e < n → 0 < n → cond opposed e 0 < n
+lead true e n lt le = lt
+lead false e n lt le = le
+
+lag : (opposed : Bool) (e n : ℕ) → e < n → 0 < n → cond opposed 0 e < n
+lag true e n lt le = le
+lag false e n lt le = lt
+
+pub carried : (s : RawStep) → GoodStep s → (p q : Grid) → IsPattern s.fine.tiles p → IsGrid q → IsCoarse s p q → (opposed : Bool) (d e : ℕ)
+    → d + 3 ≤ along (grid_axis s.axis) (core s.radius p) → e < across (grid_axis s.axis) (core s.radius p) → HasVector (grid_axis s.axis) opposed d e p → (n : ℕ) × IsCarried s opposed d e n q
+carried s g p q v iq i opposed d e la lc h =
+    let a = grid_axis s.axis in
+    let c = core s.radius p in
+    let k = carried_grid a (line_side s.side) (allowing s) (is_marker s) (pieces s) (the_table s g) c q d (cond opposed e 0) (cond opposed 0 e)
+    (core_allowed s g p v.1 v.2) iq i la (lead opposed e (across a c) lc (omega arith)) (lag opposed e (across a c) lc (omega arith))
+    (core_repeated a s.radius d (cond opposed e 0) (cond opposed 0 e) p h) in
+    (k.0, record { vector = k.1.repeated; filled = k.1.filled; shorter = k.1.shorter; half = k.1.doubled })

@@ -1,0 +1,30 @@
+// What good marker steps do to patterns and their periods.
+ghost use Rattle.std.specs.Prelude.{◌≡◌, ◌+◌, ◌<◌, ◌≤◌, None, ℕ, Bool};
+ghost use Rattle.wt_tile.specs.Matching.{grid_axis};
+ghost use Rattle.wt_grid.specs.Grid.{Grid, IsGrid, along, across, lines};
+ghost use Rattle.wt_grid.specs.Parts.{core};
+ghost use Rattle.wt_grid.specs.Lines.{IsImage};
+ghost use Rattle.wt_grid.specs.Images.{image_grid};
+ghost use Rattle.wt_grid.specs.Shifts.{HasVector};
+ghost use Rattle.wt_pattern.specs.Patterns.{IsPattern};
+ghost use Rattle.wt_step.specs.declared.raw.RawStep.{RawStep};
+ghost use Rattle.wt_step.specs.Faults.{step_fault as first_fault};
+ghost use Rattle.wt_step.specs.Meaning.{pieces, IsCoarse};
+ghost use Rattle.wt_scale.specs.Scales.{IsCarried};
+
+/// Each valid coarse pattern of a good marker step has an image, and that is valid: the coarse tiles of a
+/// line stand for one or two lines, which match as the step's images say.
+pub fn images_are_valid()
+    ensures { (s : RawStep) → first_fault s ≡ None → (q : Grid) → IsPattern s.coarse.tiles q
+        → IsPattern s.fine.tiles (image_grid (grid_axis s.axis) (pieces s) q)
+        × IsImage (pieces s) (lines (grid_axis s.axis) q) (lines (grid_axis s.axis) (image_grid (grid_axis s.axis) (pieces s) q)) }
+{}
+
+/// A period of a valid pattern is a period of the coarse pattern that a good marker step makes of it, where
+/// the core has three lines more along the axis than the period, and one more across. The period's part
+/// along the axis is counted in blocks instead of lines.
+pub fn periods_are_carried()
+    ensures { (s : RawStep) → first_fault s ≡ None → (p q : Grid) → IsPattern s.fine.tiles p → IsGrid q → IsCoarse s p q
+        → (opposed : Bool) (d e : ℕ) → d + 3 ≤ along (grid_axis s.axis) (core s.radius p) → e < across (grid_axis s.axis) (core s.radius p)
+        → HasVector (grid_axis s.axis) opposed d e p → (n : ℕ) × IsCarried s opposed d e n q }
+{}
