@@ -7,4 +7,3 @@ pub mod Blocks
 pub mod Coarse
 pub mod Views
 pub mod Meaning
-pub mod Coarse
