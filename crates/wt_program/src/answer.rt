@@ -1,15 +1,14 @@
 // What a command answers to its input.
 ghost use Rattle.std.specs.Prelude.{◌≡◌, IfOk};
-ghost use Rattle.wt_program.specs.Answers.{check_reply};
+ghost use Rattle.wt_program.specs.Answers.{unbuilt as reply_unbuilt};
 
 use crate::reply::Reply;
 use std::alloc::{AllocError, Global};
 use wt_seq::Seq;
 
-/// The reply of `check` to the bytes of a certificate.
-#[tactic(auto, unfolding(crate::specs::Answers::check_reply))]
-pub fn check_answer(alloc: Global, bytes: &[u8]) -> Result<Reply, AllocError>
-    ensures { IfOk result (λ reply. reply ≡ check_reply bytes.now) }
+/// The reply of a command that isn't built yet.
+pub fn unbuilt(alloc: Global) -> Result<Reply, AllocError>
+    ensures { IfOk result (λ reply. reply ≡ reply_unbuilt) }
 {
     let line = b"refused unbuilt\n".to_vec(alloc)?;
     Ok(Reply::Refused(Seq::new(line)))

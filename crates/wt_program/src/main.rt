@@ -2,10 +2,13 @@
 #![tactic(auto)]
 
 mod answer;
+mod checking;
 mod command;
 mod fault;
 mod reply;
 mod status;
+#[cfg(test)]
+mod tests;
 mod top;
 
 use std::env;

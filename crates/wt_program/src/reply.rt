@@ -1,5 +1,5 @@
 // What a command answers where no device failed and memory sufficed.
-ghost use Rattle.std.specs.Prelude.{◌≡◌, ◌≢◌};
+ghost use Rattle.std.specs.Prelude.{◌≡◌, ◌≢◌, ◌≤◌};
 ghost use Rattle.wt_program.specs.Replies.{said};
 
 use crate::status::{ANSWERED, LIMIT, REFUSED, SPENT};
@@ -18,6 +18,7 @@ impl Reply {
     /// The status that stands for the kind. It is never that of usage, of a fault or of want of memory.
     pub fn status(&self) -> u8
         ensures value { result ≡ (said self.now).status }
+        ensures small { result ≤ 6 }
         ensures usage { result ≢ 2 }
         ensures read { result ≢ 3 }
         ensures write { result ≢ 4 }

@@ -1,13 +1,15 @@
 // All that the program does, over any source and sink.
-ghost use Rattle.std.specs.Prelude.{◌≡◌, ◌≢◌, ◌⊎◌, ℕ, take, codes, IfOk, IfSome, IfNone};
+ghost use Rattle.std.specs.Prelude.{◌≡◌, ◌≢◌, ◌≤◌, ◌⊎◌, ℕ, take, codes, Some, IfOk, IfSome};
 ghost use Rattle.std.specs.Io.KnownBytes.{Appends};
 ghost use Rattle.wt_io.specs.Causes.{Rose};
 ghost use Rattle.wt_io.specs.Took.{TookUpTo};
-ghost use Rattle.wt_program.specs.Commands.{command, named, word_bytes};
+ghost use Rattle.wt_program.specs.Commands.{check, command, named, word_bytes};
 ghost use Rattle.wt_program.specs.Answers.{IsReply};
 ghost use Rattle.wt_program.specs.Outcomes.{IsAnswered, IsCutOff};
+ghost use Rattle.wt_program.specs.Promise.{Desubstitutes};
 
-use crate::answer::check_answer;
+use crate::answer::unbuilt;
+use crate::checking::check_reply;
 use crate::command::{Command, command_of};
 use crate::reply::Reply;
 use crate::status::{LIMIT, OUT_OF_MEMORY, READ_FAULT, USAGE, WRITE_FAULT};
@@ -22,14 +24,15 @@ fn reply_to(alloc: Global, command: Command<'_>, bytes: &[u8]) -> Result<Reply, 
     ensures { IfOk result (IsReply (named command.entry) bytes.now) }
 {
     match command {
-        Command::Check => check_answer(alloc, bytes),
-        Command::Desub { step: _ } => check_answer(alloc, bytes),
+        Command::Check => check_reply(alloc, bytes),
+        Command::Desub { step: _ } => unbuilt(alloc),
     }
 }
 
 /// Writes a text and answers its status, or that of a write fault.
 fn finish<K: Sink>(sink: &mut K, text: &[u8], status: u8) -> u8
     requires { status ≢ 4 }
+    ensures small { status ≤ 7 → result ≤ 7 }
     ensures done { result ≢ 4 → (result ≡ status) × Appends (K.held sink.old) (K.held sink.new) text.now }
     ensures fault { result ≡ 4 → Rose (K.faults sink.old) (K.faults sink.new) }
     ensures prefix { result ≡ 4 → (n : ℕ) × Appends (K.held sink.old) (K.held sink.new) (take n text.now) }
@@ -42,9 +45,11 @@ fn finish<K: Sink>(sink: &mut K, text: &[u8], status: u8) -> u8
 
 /// All that the program does: it answers the command that the words are to the bytes of the source, writes its answer to the sink, and answers the status.
 pub fn wang<S: Source, K: Sink>(alloc: Global, words: &[String], src: &mut S, sink: &mut K) -> u8
+    ensures status { result ≤ 7 }
     ensures answered { IfSome (S.left src.old) (λ bytes. IsAnswered (word_bytes words.now) bytes (K.held sink.old) (K.held sink.new) result) }
     ensures usage { command (word_bytes words.now) ≡ None → ((result ≡ 2) ⊎ (result ≡ 4)) × (src.new ≡ src.old) }
     ensures usage_only { result ≡ 2 → (command (word_bytes words.now) ≡ None) × Appends (K.held sink.old) (K.held sink.new) (codes "usage\n") }
+    ensures desubstitutes { result ≡ 0 → command (word_bytes words.now) ≡ Some check → IfSome (S.left src.old) Desubstitutes }
     ensures read_fault { result ≡ 3 → Rose (S.faults src.old) (S.faults src.new) × Appends (K.held sink.old) (K.held sink.new) (codes "read fault\n") }
     ensures read_within { result ≡ 3 → TookUpTo (S.left src.old) (S.left src.new) 16777216 }
     ensures write_fault { result ≡ 4 → Rose (K.faults sink.old) (K.faults sink.new) }

@@ -5,6 +5,7 @@ use Rattle.wt_program.specs.declared.reply.Reply.TheVariants.{Limit}
 use Rattle.wt_program.specs.Replies.{usage, said}
 use Rattle.wt_program.specs.Commands.{named, word_bytes}
 use Rattle.wt_program.proofs.Told.{no_command, whole_input, long_input, told, told_as, cut_off}
+use Rattle.wt_program.proofs.Kept.{promised}
 use Rattle.wt_program.proofs.top.wang.Goals as goal
 
 pub returns-in_default-clause-answered : goal.returns-in_default-clause-answered
@@ -28,6 +29,9 @@ returns-in-Ok-reply_to-clause-cut_off g c e =
     let few : length c.in-Ok.bytes.items ≤ 16777216 = omega (arith, c.in-Ok.bytes.ok.0, c.in-Ok.ensures.within) in
     let is = whole_input (word_bytes c.args.words.now) (g.S.Source.left c.args.src.now) (g.S.Source.left c.read_all.new.src) c.in-Ok.bytes.items (named c.in-Some.command) reply c.in-Some.ensures c.in-Ok.ensures.bytes c.in-Ok.ensures.end few (rw c.deref.ensures.value at c.in-Ok-reply_to.ensures) in
     cut_off (word_bytes c.args.words.now) (g.S.Source.left c.args.src.now) (said reply) (Rose (g.S.Source.faults c.args.src.now) (g.S.Source.faults c.read_all.new.src)) (g.K.Sink.held c.args.sink.now) (g.K.Sink.held c.finish-in-Ok-reply_to.new.sink) c.text.result.now c.text.ensures is (c.finish-in-Ok-reply_to.ensures.prefix e)
+
+pub returns-in-Ok-reply_to-clause-desubstitutes : goal.returns-in-Ok-reply_to-clause-desubstitutes
+returns-in-Ok-reply_to-clause-desubstitutes g c z e = promised (word_bytes c.args.words.now) (g.S.Source.left c.args.src.now) (g.K.Sink.held c.args.sink.now) (g.K.Sink.held c.finish-in-Ok-reply_to.new.sink) c.finish-in-Ok-reply_to.result z e (returns-in-Ok-reply_to-clause-answered g c)
 
 pub returns-in-Err-TooLong-clause-answered : goal.returns-in-Err-TooLong-clause-answered
 returns-in-Err-TooLong-clause-answered g c =

@@ -1,0 +1,85 @@
+-- What an accepted chain promises.
+use Rattle.std.proofs.Common.{arith, length, ◌≡◌, ℕ, zero, suc, ◌+◌, List, [], ◌∷◌, slice_get, Option, None, Some, option_map, refl, sym, ◌∙◌, ap, subst}
+use Rattle.std.specs.Prelude.{Result, Ok, Err, IfSome, Bool, true, false, nat_lt}
+use Rattle.wt_line.specs.declared.faults.What.{What}
+use Rattle.wt_text.specs.Readers.{TextFault, syntax_at, limit_at}
+use Rattle.wt_grid.specs.First.{or_else}
+use Rattle.wt_grid.proofs.First.{neither}
+use Rattle.wt_tile.specs.declared.tile.TileList.{TileList}
+use Rattle.wt_step.specs.declared.raw.StepFault.{StepFault}
+use Rattle.wt_step.specs.declared.raw.RawLink.{RawLink}
+use Rattle.wt_step.specs.declared.raw.RawLink.TheVariants.{Marker, Restrict}
+use Rattle.wt_step.specs.Links.{link_fault, coarse_of}
+use Rattle.wt_chain.specs.declared.raw.RawChain.{RawChain}
+use Rattle.wt_chain.specs.declared.raw.Refusal.{Refusal}
+use Rattle.wt_chain.specs.declared.raw.Refusal.TheVariants.{Step}
+use Rattle.wt_chain.specs.Faults.{chain_fault, size_fault, steps_fault, steps_fault_from, step_fault_at, end_fault}
+use Rattle.wt_step.proofs.Goodness.{good_step}
+use Rattle.wt_step.proofs.Desubstitution.{some_coarse, one_coarse}
+use Rattle.wt_step.proofs.Restricted.{good_restrict, some_kept, one_kept}
+use Rattle.wt_program.specs.Commands.{Command, check, command}
+use Rattle.wt_program.specs.Replies.{Answer, said}
+use Rattle.wt_program.specs.Checks.{chain_of, judged, checked, check_reply}
+use Rattle.wt_program.specs.Answers.{IsAnswerBy, IsAnswerTo}
+use Rattle.wt_program.specs.Outcomes.{IsAnswered}
+use Rattle.wt_program.specs.Promise.{Desubstitutes, TakesApart, EveryStepTakesApart, IsOfMargin, IsApartIn}
+
+none_under : (k : ℕ) (a : Option StepFault) → option_map (Step k) a ≡ None → a ≡ None
+none_under k None e = refl
+none_under k (Some x) e = absurd cc
+
+each_good : (n : ℕ) (before : Option TileList) (links : List RawLink) → steps_fault_from n before links ≡ None
+    → (k : ℕ) (link : RawLink) → slice_get links k ≡ Some link → link_fault link ≡ None
+each_good n before [] e k link at = absurd cc
+each_good n before (l ∷ ls) e zero link at =
+    let first = neither (step_fault_at n before l) (steps_fault_from (n + 1) (Some (coarse_of l)) ls) e in
+    let own = neither (option_map (Step n) (link_fault l)) _ first.0 in
+    let same : l ≡ link = cc in
+    subst (λ (x : RawLink). link_fault x ≡ None) same (none_under n (link_fault l) own.0)
+each_good n before (l ∷ ls) e (suc k) link at =
+    each_good (n + 1) (Some (coarse_of l)) ls (neither (step_fault_at n before l) (steps_fault_from (n + 1) (Some (coarse_of l)) ls) e).1 k link at
+
+-- the steps of a good chain are good
+pub steps_good : (c : RawChain) → chain_fault c ≡ None → (k : ℕ) (link : RawLink) → slice_get c.steps k ≡ Some link → link_fault link ≡ None
+unfolding chain_fault
+steps_good c e =
+    let behind = neither (size_fault c) (or_else (steps_fault c.steps) (end_fault c.steps c.end)) e in
+    each_good 0 None c.steps (neither (steps_fault c.steps) (end_fault c.steps c.end) behind.1).0
+
+-- a good step takes every valid rectangle of its margin apart in exactly one way
+pub takes_apart : (link : RawLink) → link_fault link ≡ None → TakesApart link
+unfolding link_fault
+takes_apart (Marker s) e = record {
+  some = λ p valid margin. some_coarse s (good_step s e) p valid margin.0 margin.1;
+  one = λ p q r valid margin. one_coarse s (good_step s e) p q r margin.1;
+}
+takes_apart (Restrict s) e = record {
+  some = λ p valid margin. some_kept s (good_restrict s e) p valid margin.0 margin.1;
+  one = λ p q r valid margin. one_kept s (good_restrict s e) p q r margin.1;
+}
+
+pub every_step : (c : RawChain) → chain_fault c ≡ None → EveryStepTakesApart c
+every_step c e = λ k link at. takes_apart link (steps_good c e k link at)
+
+judged_well : (bytes : List ℕ) (c : RawChain) (f : Option Refusal) → chain_of bytes ≡ Ok c → chain_fault c ≡ f → (said (judged c f)).status ≡ 0 → Desubstitutes bytes
+judged_well bytes c None e g s = (c, e, every_step c g)
+judged_well bytes c (Some refusal) e g s = absurd cc
+
+checked_well : (bytes : List ℕ) (r : Result RawChain (TextFault What)) → chain_of bytes ≡ r → (said (checked r)).status ≡ 0 → Desubstitutes bytes
+checked_well bytes (Ok c) e s = judged_well bytes c (chain_fault c) e refl s
+checked_well bytes (Err (syntax_at n)) e s = absurd cc
+checked_well bytes (Err (limit_at what n)) e s = absurd cc
+
+answered_well : (b : Bool) (bytes : List ℕ) (answer : Answer) → IsAnswerTo b check bytes answer → answer.status ≡ 0 → Desubstitutes bytes
+answered_well true bytes answer is s = absurd (let t : 5 ≡ 0 = sym (ap (λ (a : Answer). a.status) is) ∙ s in cc)
+answered_well false bytes answer is s =
+    let t : (said (check_reply bytes)).status ≡ 0 = sym (ap (λ (a : Answer). a.status) (is.2 ∙ ap said is.1)) ∙ s in
+    checked_well bytes (chain_of bytes) refl t
+
+pub promised : (words : List (List ℕ)) (left old new : Option (List ℕ)) (status : ℕ) → status ≡ 0 → command words ≡ Some check
+    → IfSome left (λ bytes. IsAnswered words bytes old new status) → IfSome left Desubstitutes
+promised words None old new status z e is = tt
+promised words (Some bytes) old new status z e is =
+    let a = is (λ h. absurd (omega arith)) (λ h. absurd (omega arith)) (λ h. absurd (omega arith)) in
+    let by : IsAnswerTo (nat_lt 16777216 (length bytes)) check bytes a.0 = subst (λ (o : Option Command). IsAnswerBy o bytes a.0) e a.1 in
+    answered_well (nat_lt 16777216 (length bytes)) bytes a.0 by (sym a.2 ∙ z)

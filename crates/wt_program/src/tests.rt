@@ -1,0 +1,141 @@
+// What no clause says: worked rows over devices in memory, and devices that fail.
+use crate::top::wang;
+use std::alloc::Global;
+use std::test::Fail;
+use wt_io::{MemSink, MemSource, PlainSource};
+
+/// A certificate of one step over three tiles.
+const ONE_STEP: &str =
+    "certificate 1\nsteps 1\nstep 0 axis 1 side after radius 0\nfine 3\ny n y n\ny n x n\nx m y m\ncoarse 4\ny n y n\ny n x n\nx p y p\nx p x p\nmarkers 1 2\nallowed 1 5\n0 0\n0 2\n1 0\n1 2\n2 1\nallowed 2 5\n0 0\n0 1\n1 0\n1 1\n2 2\nrefuted 0\nimages 4\n0\n1\n0 2\n1 2\nopen\nend\n";
+
+/// The lines of that certificate from line 21 on.
+const BEHIND_LINE_20: &str =
+    "0 0\n0 1\n1 0\n1 1\n2 2\nrefuted 0\nimages 4\n0\n1\n0 2\n1 2\nopen\nend\n";
+
+/// The words between single spaces.
+fn words_of(alloc: Global, line: &str) -> Result<Vec<String>, Fail> {
+    let mut words = Vec::new(alloc);
+    if line.is_empty() {
+        return Ok(words);
+    }
+    for word in line.split(' ') {
+        words.push(String::from_str(alloc, word)?)?;
+    }
+    Ok(words)
+}
+
+/// The certificate with the first of each old text replaced by a new one.
+fn edited(alloc: Global, edits: &[(&str, &str)]) -> Result<Vec<u8>, Fail> {
+    let mut text = String::from_str(alloc, ONE_STEP)?;
+    for (old, new) in edits {
+        text = text.as_str().replacen(alloc, *old, *new, 1)?;
+    }
+    Ok(text.into_bytes())
+}
+
+#[test]
+fn answers_the_worked_rows(rt: HostRuntime) -> Result<(), Fail> {
+    let rows: [(&str, &[(&str, &str)], u8, &str); 14] = [
+        ("check", &[], 0, "accepted open\nsets 3 4\n"),
+        (
+            "check",
+            &[
+                ("coarse 4", "coarse 3"),
+                ("x p x p\n", ""),
+                ("images 4", "images 3"),
+                ("1 2\nopen", "open"),
+            ],
+            1,
+            "refused G5 step 0 pair 1 2\n",
+        ),
+        (
+            "check",
+            &[("x p y p", "x n y p")],
+            1,
+            "refused G6 step 0 axis 2 pair 2 0\n",
+        ),
+        (
+            "check",
+            &[(BEHIND_LINE_20, "")],
+            1,
+            "refused syntax line 21\n",
+        ),
+        (
+            "check",
+            &[("end\n", "end\nx")],
+            1,
+            "refused syntax line 34\n",
+        ),
+        ("check", &[("end\n", "end")], 1, "refused syntax line 33\n"),
+        ("check", &[(ONE_STEP, "")], 1, "refused syntax line 1\n"),
+        (
+            "check",
+            &[("fine 3", "fine 257")],
+            5,
+            "limit tiles line 4\n",
+        ),
+        (
+            "check",
+            &[("radius 0", "radius 5")],
+            5,
+            "limit radius line 3\n",
+        ),
+        ("", &[], 2, "usage\n"),
+        ("expand 2", &[], 2, "usage\n"),
+        ("bound 1 -0", &[], 2, "usage\n"),
+        ("sample 4", &[], 2, "usage\n"),
+        ("desub 00", &[], 2, "usage\n"),
+    ];
+    let alloc = rt.alloc();
+    for (line, edits, status, text) in rows {
+        let words = words_of(alloc, line)?;
+        let mut src = PlainSource::new(edited(alloc, edits)?);
+        let mut sink = MemSink::new(alloc, 100, 7, Vec::new(alloc))?;
+        assert_eq!(rt;
+            wang(alloc, &words, &mut src, &mut sink),
+            status,
+            "at {line}"
+        );
+        assert_eq!(rt; sink.held(), text.as_bytes(), "at {line}");
+    }
+    Ok(())
+}
+
+#[test]
+fn answers_over_failing_devices(rt: HostRuntime) -> Result<(), Fail> {
+    // The bytes of a piece, the call of the source and that of the sink that fails, the status and the text.
+    let rows = [
+        (1usize, u64::MAX, u64::MAX, 0u8, "accepted open\nsets 3 4\n"),
+        (7, 0, u64::MAX, 3, "read fault\n"),
+        (7, 3, u64::MAX, 3, "read fault\n"),
+        (7, u64::MAX, 0, 4, ""),
+        (7, u64::MAX, 1, 4, "acc"),
+        (7, 3, 2, 4, "read f"),
+    ];
+    let alloc = rt.alloc();
+    let words = words_of(alloc, "check")?;
+    for (piece, read, write, status, text) in rows {
+        let reads = [read].to_vec(alloc)?;
+        let writes = [write].to_vec(alloc)?;
+        let mut src = MemSource::new(edited(alloc, &[])?, piece.max(1), reads);
+        let mut sink = MemSink::new(alloc, 100, 3, writes)?;
+        assert_eq!(rt;
+            wang(alloc, &words, &mut src, &mut sink),
+            status,
+            "piece {piece}"
+        );
+        assert_eq!(rt; sink.held(), text.as_bytes(), "piece {piece}");
+    }
+    Ok(())
+}
+
+#[test]
+fn refuses_an_input_of_more_than_16_mib(rt: HostRuntime) -> Result<(), Fail> {
+    let alloc = rt.alloc();
+    let words = words_of(alloc, "check")?;
+    let mut src = PlainSource::new(vec![in alloc; b'\n'; 16_777_217]?);
+    let mut sink = MemSink::new(alloc, 100, 100, Vec::new(alloc))?;
+    assert_eq!(rt; wang(alloc, &words, &mut src, &mut sink), 5);
+    assert_eq!(rt; sink.held(), b"limit input\n".as_slice());
+    Ok(())
+}
