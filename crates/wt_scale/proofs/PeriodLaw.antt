@@ -1,18 +1,23 @@
 -- A period of a valid pattern is a period of its coarse pattern.
-use Rattle.std.proofs.Common.{arith, ◌≡◌, ◌≤◌, ◌<◌, ◌+◌, ℕ, Bool, true, false, cond}
-use Rattle.wt_tile.specs.Matching.{grid_axis}
+use Rattle.std.proofs.Common.{arith, ◌≡◌, ◌≤◌, ◌<◌, ◌+◌, ℕ, Bool, true, false, cond, sym, subst}
+use Rattle.wt_tile.specs.declared.tile.Axis.{Axis}
+use Rattle.wt_tile.specs.Matching.{grid_axis, tile_axis}
 use Rattle.wt_pattern.specs.Patterns.{IsPattern}
 use Rattle.wt_grid.specs.Grid.{Grid, IsGrid, along, across}
 use Rattle.wt_grid.specs.Parts.{core}
+use Rattle.wt_grid.specs.Parts.{other as other_grid}
+use Rattle.wt_grid.specs.Lines.{IsGood}
+use Rattle.wt_grid.specs.Cuts.{table}
 use Rattle.wt_grid.specs.Shifts.{HasVector}
 use Rattle.wt_grid.proofs.CarriedGrids.{core_repeated, carried_grid}
 use Rattle.wt_step.specs.declared.raw.RawStep.{RawStep}
-use Rattle.wt_step.specs.Words.{is_marker}
+use Rattle.wt_step.specs.Words.{allows, is_marker}
 use Rattle.wt_step.specs.Good.{GoodStep}
 use Rattle.wt_step.specs.Meaning.{line_side, allowing, pieces, IsCoarse}
 use Rattle.wt_scale.specs.Scales.{IsCarried}
 use Rattle.wt_step.proofs.Cores.{core_allowed}
-use Rattle.wt_step.proofs.Desubstitution.{the_table}
+use Rattle.wt_step.proofs.Tables.{good_table}
+use Rattle.wt_step.proofs.Desubstitution.{tile_grid, tile_other}
 
 lead : (opposed : Bool) (e n : ℕ) → e < n → 0 < n → cond opposed e 0 < n
 lead true e n lt le = lt
@@ -21,6 +26,12 @@ lead false e n lt le = le
 lag : (opposed : Bool) (e n : ℕ) → e < n → 0 < n → cond opposed 0 e < n
 lag true e n lt le = le
 lag false e n lt le = lt
+
+-- the table of a good step, said with the axes of rectangles
+the_table : (s : RawStep) → GoodStep s → IsGood (table (line_side s.side) (allowing s (grid_axis s.axis)) (allowing s (other_grid (grid_axis s.axis))) (is_marker s) (pieces s))
+the_table s g =
+    subst (λ (u : Axis). IsGood (table (line_side s.side) (allows s u) (allows s (tile_axis (other_grid (grid_axis s.axis)))) (is_marker s) (pieces s))) (sym (tile_grid s.axis))
+    (subst (λ (v : Axis). IsGood (table (line_side s.side) (allows s s.axis) (allows s v) (is_marker s) (pieces s))) (sym (tile_other s.axis)) (good_table s g))
 
 pub carried : (s : RawStep) → GoodStep s → (p q : Grid) → IsPattern s.fine.tiles p → IsGrid q → IsCoarse s p q → (opposed : Bool) (d e : ℕ)
     → d + 3 ≤ along (grid_axis s.axis) (core s.radius p) → e < across (grid_axis s.axis) (core s.radius p) → HasVector (grid_axis s.axis) opposed d e p → (n : ℕ) × IsCarried s opposed d e n q
