@@ -1,19 +1,16 @@
 -- What the program answers, where no device fails and memory suffices.
 use Rattle.std.specs.Prelude.{◌≡◌, ℕ, Bool, true, false, nat_lt, List, length, codes, Option, None, Some}
 use Rattle.wt_program.specs.declared.reply.Reply.{Reply}
-use Rattle.wt_program.specs.declared.reply.Reply.TheVariants.{Refused, Limit}
+use Rattle.wt_program.specs.declared.reply.Reply.TheVariants.{Limit}
 use Rattle.wt_program.specs.Checks.{check_reply}
+use Rattle.wt_program.specs.Desubs.{IsDesubReply}
 use Rattle.wt_program.specs.Commands.{Command, check, desub, command}
 use Rattle.wt_program.specs.Replies.{Answer, usage, said}
-
--- until patterns are taken apart
-abbrev pub unbuilt : Reply
-unbuilt = Refused (codes "refused unbuilt\n")
 
 -- the reply of a command to its whole input
 abbrev pub IsReply : Command → List ℕ → Reply → Type 0
 IsReply check bytes reply = reply ≡ check_reply bytes
-IsReply (desub step) bytes reply = reply ≡ unbuilt
+IsReply (desub step) bytes reply = IsDesubReply step bytes reply
 
 -- an input that is too long is refused before all else
 abbrev pub IsAnswerTo : Bool → Command → List ℕ → Answer → Type 0

@@ -25,4 +25,4 @@ command (w ∷ v ∷ u ∷ ws) = None
 -- the command that the code holds
 abbrev pub named : CodeCommand → Command
 named Check = check
-named (Desub step) = desub step.now
+named (Desub step) = desub step.text.now

@@ -2,6 +2,7 @@
 ghost use Rattle.std.specs.Prelude.{◌≡◌, None, Some, MatchOption};
 ghost use Rattle.wt_program.specs.Commands.{command, named, word_bytes};
 
+use crate::number::StepNumber;
 use wt_line::is_decimal;
 
 /// A command, as the words say it.
@@ -9,8 +10,8 @@ use wt_line::is_decimal;
 pub enum Command<'a> {
     /// Check the certificate that comes in.
     Check,
-    /// Take the pattern that comes in apart by a step of the certificate before it. The step's number is kept as it was written, since it may be of any size.
-    Desub { step: &'a [u8] },
+    /// Take the pattern that comes in apart by a step of the certificate before it.
+    Desub { step: StepNumber<'a> },
 }
 
 /// The command that the words are, or None where they are none.
@@ -21,7 +22,9 @@ pub fn command_of(words: &[String]) -> Option<Command<'_>>
         [word] if word.as_str() == "check" => Some(Command::Check),
         [word, step] if word.as_str() == "desub" && is_decimal(step.as_bytes()) => Some(
             Command::Desub {
-                step: step.as_bytes(),
+                step: StepNumber {
+                    text: step.as_str(),
+                },
             },
         ),
         _ => None,

@@ -1,10 +1,11 @@
 //! The program `wang`: it checks certificates that say how the patterns of a set of Wang tiles are put together, and answers from them.
 #![tactic(auto)]
 
-mod answer;
 mod checking;
 mod command;
+mod desub;
 mod fault;
+mod number;
 mod reply;
 mod status;
 #[cfg(test)]

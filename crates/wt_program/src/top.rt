@@ -8,9 +8,9 @@ ghost use Rattle.wt_program.specs.Answers.{IsReply};
 ghost use Rattle.wt_program.specs.Outcomes.{IsAnswered, IsCutOff};
 ghost use Rattle.wt_program.specs.Promise.{Desubstitutes};
 
-use crate::answer::unbuilt;
 use crate::checking::check_reply;
 use crate::command::{Command, command_of};
+use crate::desub::desub_reply;
 use crate::reply::Reply;
 use crate::status::{LIMIT, OUT_OF_MEMORY, READ_FAULT, USAGE, WRITE_FAULT};
 use std::alloc::{AllocError, Global};
@@ -25,7 +25,7 @@ fn reply_to(alloc: Global, command: Command<'_>, bytes: &[u8]) -> Result<Reply, 
 {
     match command {
         Command::Check => check_reply(alloc, bytes),
-        Command::Desub { step: _ } => unbuilt(alloc),
+        Command::Desub { step } => desub_reply(alloc, step, bytes),
     }
 }
 
