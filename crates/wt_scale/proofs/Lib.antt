@@ -1,1 +1,2 @@
-mod PeriodLaw
+pub mod PeriodLaw
+pub mod Lowering
