@@ -3,4 +3,4 @@
 
 mod laws;
 
-pub use laws::{images_are_valid, periods_are_carried};
+pub use laws::{images_are_valid, patterns_are_lowered, periods_are_carried};
