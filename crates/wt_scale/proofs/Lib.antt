@@ -1,2 +1,5 @@
 pub mod PeriodLaw
 pub mod Lowering
+pub mod Renamed
+pub mod Standing
+pub mod NoPeriods
