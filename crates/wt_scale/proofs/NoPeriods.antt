@@ -151,3 +151,29 @@ at_start first rest linked start list e (l ∷ ls) same good k m opposed d c ld 
   where
     still : {d c r u : ℕ} → (1 ≤ d) ⊎ (1 ≤ c) → (1 ≤ d → 1 ≤ r) → (1 ≤ c → 1 ≤ u) → (1 ≤ r) ⊎ (1 ≤ u)
     still some f g = elim some [ inl h ↦ inl (f h) | inr h ↦ inr (g h) ]
+
+-- ---- vectors of integers
+
+vector_of : (g : Grid) (x y : ℤ) → IsPeriod g x y → (opposed : Bool) × HasVector first_axis opposed (magnitude x) (magnitude y) g
+vector_of g (pos a) (pos b) h = (false, forward_repeated first_axis g a b h)
+vector_of g (pos a) (negsuc b) h = (true, back_repeated first_axis g a (suc b) h)
+vector_of g (negsuc a) (pos zero) h = (false, forward_repeated first_axis g (suc a) 0 (opposite_period first_axis g (negsuc a) (pos 0) h))
+vector_of g (negsuc a) (pos (suc b)) h = (true, back_repeated first_axis g (suc a) (suc b) (opposite_period first_axis g (negsuc a) (pos (suc b)) h))
+vector_of g (negsuc a) (negsuc b) h = (false, forward_repeated first_axis g (suc a) (suc b) (opposite_period first_axis g (negsuc a) (negsuc b) h))
+
+run_is_linked : (first : RawLink) (rest steps : List RawLink) → steps ≡ first ∷ rest → IsRun steps → AreLinked (fine_of first) (first ∷ rest)
+run_is_linked first rest steps e run = subst (λ (xs : List RawLink). IsRun xs) e run
+
+-- No vector of components up to m is a period of a valid pattern of the stated size over the first set.
+pub no_period : (c : RawChain) → GoodChain c → (start e : ℕ) (list : List ℕ) → c.end ≡ Loop start list e → (first : RawLink) (rest : List RawLink) → c.steps ≡ first ∷ rest
+    → (x y : ℤ) (m k : ℕ) → magnitude x ≤ m → magnitude y ≤ m → m < 2 ^ k → (1 ≤ magnitude x) ⊎ (1 ≤ magnitude y)
+    → (p : Grid) → IsPattern (fine_of first).tiles p → size_of c.steps start e k m ≤ p.width → size_of c.steps start e k m ≤ p.height → IsPeriod p x y → ⊥
+no_period c good start e list end first rest steps x y m k lx ly lm some p v w h period =
+    let linked = run_is_linked first rest c.steps steps good.run in
+    let loop : GoodLoop (drop start (first ∷ rest)) list e = subst (λ (xs : List RawLink). GoodLoop (drop start xs) list e) steps (subst (λ (z : _). GoodEnd c.steps z) end good.end) in
+    let vec = vector_of p x y period in
+    let size : ℕ = size_of (first ∷ rest) start e k m in
+    let w' : size ≤ p.width = subst (λ (xs : List RawLink). size_of xs start e k m ≤ p.width) steps w in
+    let h' : size ≤ p.height = subst (λ (xs : List RawLink). size_of xs start e k m ≤ p.height) steps h in
+    at_start first rest linked start list e (drop start (first ∷ rest)) refl loop k m vec.0 (magnitude x) (magnitude y) lx ly lm some
+    (started (fine_of first).tiles size vec.0 (magnitude x) (magnitude y) p v w' h' vec.1)

@@ -1,5 +1,5 @@
 // What good marker steps do to patterns and their periods.
-ghost use Rattle.std.specs.Prelude.{◌≡◌, ◌+◌, ◌<◌, ◌≤◌, None, ℕ, Bool};
+ghost use Rattle.std.specs.Prelude.{◌≡◌, ◌⊎◌, ◌+◌, ◌^◌, ◌∷◌, ◌<◌, ◌≤◌, None, ℕ, ℤ, List, Bool};
 ghost use Rattle.wt_tile.specs.Matching.{grid_axis};
 ghost use Rattle.wt_grid.specs.Grid.{Grid, IsGrid, along, across, lines, one};
 ghost use Rattle.wt_grid.specs.Parts.{core};
@@ -12,6 +12,11 @@ ghost use Rattle.wt_step.specs.Faults.{step_fault as first_fault};
 ghost use Rattle.wt_step.specs.Meaning.{pieces, IsCoarse};
 ghost use Rattle.wt_step.specs.declared.raw.RawLink.{RawLink};
 ghost use Rattle.wt_step.specs.Links.{link_fault, fine_of};
+ghost use Rattle.wt_pattern.specs.Periods.{IsPeriod};
+ghost use Rattle.wt_chain.specs.declared.raw.RawChain.{RawChain};
+ghost use Rattle.wt_chain.specs.declared.raw.End.TheVariants.{Loop};
+ghost use Rattle.wt_chain.specs.Faults.{chain_fault};
+ghost use Rattle.wt_scale.specs.Sizes.{magnitude, size_of};
 ghost use Rattle.wt_scale.specs.Scales.{IsCarried, Lowered, side_below};
 
 /// Each valid coarse pattern of a good marker step has an image, and that is valid: the coarse tiles of a
@@ -39,4 +44,14 @@ pub fn patterns_are_lowered()
     ensures { (l : RawLink) → link_fault l ≡ None → (p : Grid) (side : ℕ) (opposed : Bool) (dx dy : ℕ) → IsPattern (fine_of l).tiles p
         → side_below l side ≤ p.width → side_below l side ≤ p.height → dx + 2 ≤ side → dy + 2 ≤ side → HasVector one opposed dx dy p
         → Lowered l p side opposed dx dy }
+{}
+
+/// No nonzero vector is a period of a valid pattern over the first set of a good looped chain, if the pattern
+/// is large enough: for components up to m, and k with m < 2^k, the size is `size_of`. Over each e turns of
+/// the loop a component that isn't 0 is at least halved, since every tile grows to two cells at least each
+/// way; after k times e turns it would be at least 2^k, which is more than m.
+pub fn large_patterns_have_no_period()
+    ensures { (c : RawChain) → chain_fault c ≡ None → (start e : ℕ) (list : List ℕ) → c.end ≡ Loop start list e → (first : RawLink) (rest : List RawLink) → c.steps ≡ first ∷ rest
+        → (x y : ℤ) (m k : ℕ) → magnitude x ≤ m → magnitude y ≤ m → m < 2 ^ k → (1 ≤ magnitude x) ⊎ (1 ≤ magnitude y)
+        → (p : Grid) → IsPattern (fine_of first).tiles p → size_of c.steps start e k m ≤ p.width → size_of c.steps start e k m ≤ p.height → IsPeriod p x y → ⊥ }
 {}
