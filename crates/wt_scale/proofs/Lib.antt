@@ -1,1 +1,5 @@
-mod PeriodLaw
+pub mod PeriodLaw
+pub mod Lowering
+pub mod Renamed
+pub mod Standing
+pub mod NoPeriods

@@ -19,16 +19,16 @@ use Rattle.wt_step.proofs.Cores.{core_allowed}
 use Rattle.wt_step.proofs.Tables.{good_table}
 use Rattle.wt_step.proofs.Desubstitution.{tile_grid, tile_other}
 
-lead : (opposed : Bool) (e n : ℕ) → e < n → 0 < n → cond opposed e 0 < n
+pub lead : (opposed : Bool) (e n : ℕ) → e < n → 0 < n → cond opposed e 0 < n
 lead true e n lt le = lt
 lead false e n lt le = le
 
-lag : (opposed : Bool) (e n : ℕ) → e < n → 0 < n → cond opposed 0 e < n
+pub lag : (opposed : Bool) (e n : ℕ) → e < n → 0 < n → cond opposed 0 e < n
 lag true e n lt le = le
 lag false e n lt le = lt
 
 -- the table of a good step, said with the axes of rectangles
-the_table : (s : RawStep) → GoodStep s → IsGood (table (line_side s.side) (allowing s (grid_axis s.axis)) (allowing s (other_grid (grid_axis s.axis))) (is_marker s) (pieces s))
+pub the_table : (s : RawStep) → GoodStep s → IsGood (table (line_side s.side) (allowing s (grid_axis s.axis)) (allowing s (other_grid (grid_axis s.axis))) (is_marker s) (pieces s))
 the_table s g =
     subst (λ (u : Axis). IsGood (table (line_side s.side) (allows s u) (allows s (tile_axis (other_grid (grid_axis s.axis)))) (is_marker s) (pieces s))) (sym (tile_grid s.axis))
     (subst (λ (v : Axis). IsGood (table (line_side s.side) (allows s s.axis) (allows s v) (is_marker s) (pieces s))) (sym (tile_other s.axis)) (good_table s g))

@@ -1,11 +1,20 @@
--- What a good marker step does to periods.
-use Rattle.std.specs.Prelude.{◌≡◌, ℕ, ◌+◌, ◌≤◌, Bool, length, take, drop}
+-- What a good step does to sizes, periods and runs of cells.
+use Rattle.std.specs.Prelude.{◌≡◌, ℕ, ◌+◌, ◌*◌, ◌≤◌, Bool, true, false, List, ◌∷◌, length, take, drop}
 use Rattle.wt_tile.specs.Matching.{grid_axis}
+use Rattle.wt_pattern.specs.Patterns.{IsPattern}
 use Rattle.wt_grid.specs.Grid.{Grid, along, lines}
+use Rattle.wt_grid.specs.Grid.{Axis as GridAxis, one as first_axis, two as second_axis}
+use Rattle.wt_grid.specs.Lines.{Piece}
 use Rattle.wt_grid.specs.Shifts.{HasVector}
 use Rattle.wt_grid.specs.Images.{image_lines}
+use Rattle.wt_grid.specs.Widths.{Stage}
+use Rattle.wt_grid.specs.Traces.{IsStageOf, IsTraced}
 use Rattle.wt_step.specs.declared.raw.RawStep.{RawStep}
-use Rattle.wt_step.specs.Meaning.{pieces}
+use Rattle.wt_step.specs.declared.raw.RawLink.{RawLink}
+use Rattle.wt_step.specs.declared.raw.RawLink.TheVariants.{Marker, Restrict}
+use Rattle.wt_step.specs.Links.{coarse_of}
+use Rattle.wt_step.specs.Meaning.{pieces, kept_pieces}
+use Rattle.wt_step.specs.Coarse.{IsCoarseOf}
 
 -- A period of d lines along the step's axis and e cells across it has become one of n coarse lines and e cells on the coarse rectangle q: n coarse lines stand for d lines, wherever they begin.
 pub record IsCarried (s : RawStep) (opposed : Bool) (d e n : ℕ) (q : Grid) : Type 0 where
@@ -14,3 +23,43 @@ pub record IsCarried (s : RawStep) (opposed : Bool) (d e n : ℕ) (q : Grid) : T
   -- no longer than before, and at least half as long: so none exactly where there was none
   pub shorter : n ≤ d
   pub half : d ≤ n + n
+
+-- ---- steps of either kind
+
+-- what each coarse tile stands for
+abbrev pub link_pieces : RawLink → List Piece
+link_pieces (Marker s) = pieces s
+link_pieces (Restrict s) = kept_pieces s
+
+abbrev pub same_grid_axis : GridAxis → GridAxis → Bool
+same_grid_axis first_axis first_axis = true
+same_grid_axis first_axis second_axis = false
+same_grid_axis second_axis first_axis = false
+same_grid_axis second_axis second_axis = true
+
+-- images of two tiles lie along this axis
+abbrev pub lies_along : GridAxis → RawLink → Bool
+lies_along axis (Marker s) = same_grid_axis axis (grid_axis s.axis)
+lies_along axis (Restrict s) = false
+
+-- the side that a rectangle needs so that its coarse one has this side: margins and cuts are paid
+abbrev pub side_below : RawLink → ℕ → ℕ
+side_below (Marker s) side = 2 * side + 2 * s.radius + 2
+side_below (Restrict s) side = side + 2 * s.radius
+
+-- The coarse pattern of a pattern with a period: it is as large as is asked, and has a period no longer, of which each part is at least half as long, and a restrict step's is the same; and its runs of cells stand for the runs of cells below, at every place.
+pub record Lowered (l : RawLink) (p : Grid) (side : ℕ) (opposed : Bool) (dx dy : ℕ) : Type 0 where
+  pub coarse : Grid
+  pub image : IsCoarseOf l p coarse
+  pub pattern : IsPattern (coarse_of l).tiles coarse
+  pub wide : side ≤ coarse.width
+  pub high : side ≤ coarse.height
+  pub right : ℕ
+  pub up : ℕ
+  pub vector : HasVector first_axis opposed right up coarse
+  pub right_shorter : right ≤ dx
+  pub up_shorter : up ≤ dy
+  pub right_half : dx ≤ right + right
+  pub up_half : dy ≤ up + up
+  pub right_runs : (s : Stage) (ss : List Stage) (d : ℕ) → IsStageOf (lies_along first_axis l) (link_pieces l) s → IsTraced first_axis ss d p dx → IsTraced first_axis (s ∷ ss) d coarse right
+  pub up_runs : (s : Stage) (ss : List Stage) (d : ℕ) → IsStageOf (lies_along second_axis l) (link_pieces l) s → IsTraced second_axis ss d p dy → IsTraced second_axis (s ∷ ss) d coarse up

@@ -1,7 +1,7 @@
 // What good marker steps do to patterns and their periods.
-ghost use Rattle.std.specs.Prelude.{◌≡◌, ◌+◌, ◌<◌, ◌≤◌, None, ℕ, Bool};
+ghost use Rattle.std.specs.Prelude.{◌≡◌, ◌⊎◌, ◌+◌, ◌^◌, ◌∷◌, ◌<◌, ◌≤◌, None, ℕ, ℤ, List, Bool};
 ghost use Rattle.wt_tile.specs.Matching.{grid_axis};
-ghost use Rattle.wt_grid.specs.Grid.{Grid, IsGrid, along, across, lines};
+ghost use Rattle.wt_grid.specs.Grid.{Grid, IsGrid, along, across, lines, one};
 ghost use Rattle.wt_grid.specs.Parts.{core};
 ghost use Rattle.wt_grid.specs.Lines.{IsImage};
 ghost use Rattle.wt_grid.specs.Images.{image_grid};
@@ -10,7 +10,14 @@ ghost use Rattle.wt_pattern.specs.Patterns.{IsPattern};
 ghost use Rattle.wt_step.specs.declared.raw.RawStep.{RawStep};
 ghost use Rattle.wt_step.specs.Faults.{step_fault as first_fault};
 ghost use Rattle.wt_step.specs.Meaning.{pieces, IsCoarse};
-ghost use Rattle.wt_scale.specs.Scales.{IsCarried};
+ghost use Rattle.wt_step.specs.declared.raw.RawLink.{RawLink};
+ghost use Rattle.wt_step.specs.Links.{link_fault, fine_of};
+ghost use Rattle.wt_pattern.specs.Periods.{IsPeriod};
+ghost use Rattle.wt_chain.specs.declared.raw.RawChain.{RawChain};
+ghost use Rattle.wt_chain.specs.declared.raw.End.TheVariants.{Loop};
+ghost use Rattle.wt_chain.specs.Faults.{chain_fault};
+ghost use Rattle.wt_scale.specs.Sizes.{magnitude, size_of};
+ghost use Rattle.wt_scale.specs.Scales.{IsCarried, Lowered, side_below};
 
 /// Each valid coarse pattern of a good marker step has an image, and that is valid: the coarse tiles of a
 /// line stand for one or two lines, which match as the step's images say.
@@ -27,4 +34,24 @@ pub fn periods_are_carried()
     ensures { (s : RawStep) → first_fault s ≡ None → (p q : Grid) → IsPattern s.fine.tiles p → IsGrid q → IsCoarse s p q
         → (opposed : Bool) (d e : ℕ) → d + 3 ≤ along (grid_axis s.axis) (core s.radius p) → e < across (grid_axis s.axis) (core s.radius p)
         → HasVector (grid_axis s.axis) opposed d e p → (n : ℕ) × IsCarried s opposed d e n q }
+{}
+
+/// A valid pattern with a period has, by a good step of either kind, a valid coarse pattern with a period:
+/// as large as is asked where the pattern's sides pay for the margin and the cuts, each part of its period
+/// no longer than before, at least half as long, and zero exactly where it was; and each run of coarse
+/// cells of the period's length stands for a run of cells of the old length, wherever it begins.
+pub fn patterns_are_lowered()
+    ensures { (l : RawLink) → link_fault l ≡ None → (p : Grid) (side : ℕ) (opposed : Bool) (dx dy : ℕ) → IsPattern (fine_of l).tiles p
+        → side_below l side ≤ p.width → side_below l side ≤ p.height → dx + 2 ≤ side → dy + 2 ≤ side → HasVector one opposed dx dy p
+        → Lowered l p side opposed dx dy }
+{}
+
+/// No nonzero vector is a period of a valid pattern over the first set of a good looped chain, if the pattern
+/// is large enough: for components up to m, and k with m < 2^k, the size is `size_of`. Over each e turns of
+/// the loop a component that isn't 0 is at least halved, since every tile grows to two cells at least each
+/// way; after k times e turns it would be at least 2^k, which is more than m.
+pub fn large_patterns_have_no_period()
+    ensures { (c : RawChain) → chain_fault c ≡ None → (start e : ℕ) (list : List ℕ) → c.end ≡ Loop start list e → (first : RawLink) (rest : List RawLink) → c.steps ≡ first ∷ rest
+        → (x y : ℤ) (m k : ℕ) → magnitude x ≤ m → magnitude y ≤ m → m < 2 ^ k → (1 ≤ magnitude x) ⊎ (1 ≤ magnitude y)
+        → (p : Grid) → IsPattern (fine_of first).tiles p → size_of c.steps start e k m ≤ p.width → size_of c.steps start e k m ≤ p.height → IsPeriod p x y → ⊥ }
 {}

@@ -1,6 +1,8 @@
-//! What good steps do to patterns and their periods, as theorems: every valid coarse pattern has a valid image, and a period of a pattern is a period of its coarse pattern.
+//! What good steps do to patterns and their periods, as theorems: every valid coarse pattern has a valid image, a period of a pattern is a period of its coarse pattern, and so no large pattern over a good loop has a period.
 #![tactic(auto)]
 
 mod laws;
 
-pub use laws::{images_are_valid, periods_are_carried};
+pub use laws::{
+    images_are_valid, large_patterns_have_no_period, patterns_are_lowered, periods_are_carried,
+};

@@ -1,0 +1,6 @@
+use Rattle.wt_chain.proofs.Goodness.{good}
+use Rattle.wt_scale.proofs.NoPeriods.{no_period}
+use Rattle.wt_scale.proofs.laws.large_patterns_have_no_period.Goals as goal
+
+pub returns : goal.returns
+returns c = λ chain e. no_period chain (good chain e)
