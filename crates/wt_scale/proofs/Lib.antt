@@ -3,3 +3,4 @@ pub mod Lowering
 pub mod Renamed
 pub mod Standing
 pub mod NoPeriods
+pub mod LinkImages

@@ -11,13 +11,14 @@ ghost use Rattle.wt_step.specs.declared.raw.RawStep.{RawStep};
 ghost use Rattle.wt_step.specs.Faults.{step_fault as first_fault};
 ghost use Rattle.wt_step.specs.Meaning.{pieces, IsCoarse};
 ghost use Rattle.wt_step.specs.declared.raw.RawLink.{RawLink};
-ghost use Rattle.wt_step.specs.Links.{link_fault, fine_of};
+ghost use Rattle.wt_step.specs.Links.{link_fault, fine_of, coarse_of};
 ghost use Rattle.wt_pattern.specs.Periods.{IsPeriod};
 ghost use Rattle.wt_chain.specs.declared.raw.RawChain.{RawChain};
 ghost use Rattle.wt_chain.specs.declared.raw.End.TheVariants.{Loop};
 ghost use Rattle.wt_chain.specs.Faults.{chain_fault};
 ghost use Rattle.wt_scale.specs.Sizes.{magnitude, size_of};
 ghost use Rattle.wt_scale.specs.Scales.{IsCarried, Lowered, side_below};
+ghost use Rattle.wt_scale.specs.Existence.{ValidImage};
 
 /// Each valid coarse pattern of a good marker step has an image, and that is valid: the coarse tiles of a
 /// line stand for one or two lines, which match as the step's images say.
@@ -54,4 +55,10 @@ pub fn large_patterns_have_no_period()
     ensures { (c : RawChain) → chain_fault c ≡ None → (start e : ℕ) (list : List ℕ) → c.end ≡ Loop start list e → (first : RawLink) (rest : List RawLink) → c.steps ≡ first ∷ rest
         → (x y : ℤ) (m k : ℕ) → magnitude x ≤ m → magnitude y ≤ m → m < 2 ^ k → (1 ≤ magnitude x) ⊎ (1 ≤ magnitude y)
         → (p : Grid) → IsPattern (fine_of first).tiles p → size_of c.steps start e k m ≤ p.width → size_of c.steps start e k m ≤ p.height → IsPeriod p x y → ⊥ }
+{}
+
+/// Each valid coarse pattern of a good step, of either kind, has an image, and that is valid. It is no smaller
+/// than the coarse pattern, and equally large where every coarse tile stands for a single one.
+pub fn link_images_are_valid()
+    ensures { (l : RawLink) → link_fault l ≡ None → (q : Grid) → IsPattern (coarse_of l).tiles q → ValidImage l q }
 {}

@@ -4,5 +4,6 @@
 mod laws;
 
 pub use laws::{
-    images_are_valid, large_patterns_have_no_period, patterns_are_lowered, periods_are_carried,
+    images_are_valid, large_patterns_have_no_period, link_images_are_valid, patterns_are_lowered,
+    periods_are_carried,
 };
