@@ -1,5 +1,5 @@
 -- No vector is a period of a large valid pattern over the first set of a looped chain.
-use Rattle.std.proofs.Common.{arith, ◌≡◌, ◌⊎◌, ◌≤◌, ◌<◌, ◌+◌, ◌*◌, ◌^◌, ℕ, zero, suc, ℤ, pos, negsuc, List, [], ◌∷◌, ◌++◌, length, take, drop, None, Bool, true, false, refl, sym, ◌∙◌, ap, subst, inl, inr}
+use Rattle.std.proofs.Common.{arith, ◌≡◌, ◌⊎◌, ◌≤◌, ◌<◌, ◌+◌, ◌*◌, ◌^◌, ℕ, zero, suc, ℤ, pos, negsuc, List, [], ◌∷◌, ◌++◌, length, take, drop, Bool, true, false, refl, sym, ◌∙◌, ap, subst, inl, inr}
 use Rattle.std.proofs.lemmas.List.{take-append-drop}
 use Rattle.std.proofs.Math.Nat.{pow-succ'}
 use Rattle.wt_tile.specs.declared.tile.Tile.{Tile}
@@ -7,29 +7,28 @@ use Rattle.wt_tile.specs.declared.tile.TileList.{TileList}
 use Rattle.wt_tile.specs.declared.tile.Axis.TheVariants.{One, Two}
 use Rattle.wt_bijection.specs.Carried.{IsRenaming}
 use Rattle.wt_pattern.specs.Patterns.{IsPattern}
-use Rattle.wt_pattern.specs.Periods.{IsPeriod, IsPeriodAlong}
+use Rattle.wt_pattern.specs.Periods.{IsPeriod}
 use Rattle.wt_pattern.proofs.PeriodLaws.{forward_repeated, back_repeated, opposite_period}
 use Rattle.wt_grid.specs.Grid.{Grid, at, listed}
 use Rattle.wt_grid.specs.Grid.{one as first_axis, two as second_axis}
 use Rattle.wt_grid.specs.Shifts.{HasVector}
-use Rattle.wt_grid.specs.Widths.{Stage, last_row, total, width}
+use Rattle.wt_grid.specs.Widths.{Stage, total, width}
 use Rattle.wt_grid.specs.Traces.{segment}
 use Rattle.wt_grid.proofs.Bridge.{length-listed}
 use Rattle.wt_grid.proofs.Widths.{length_last}
 use Rattle.wt_step.specs.declared.raw.RawLink.{RawLink}
-use Rattle.wt_step.specs.Links.{link_fault, fine_of, coarse_of}
+use Rattle.wt_step.specs.Links.{fine_of, coarse_of}
 use Rattle.wt_chain.specs.declared.raw.RawChain.{RawChain}
-use Rattle.wt_chain.specs.declared.raw.End.TheVariants.{Open, Loop}
+use Rattle.wt_chain.specs.declared.raw.End.TheVariants.{Loop}
 use Rattle.wt_chain.specs.Sets.{last_set, AreLinked, IsRun}
 use Rattle.wt_chain.specs.Growth.{stages, turns}
-use Rattle.wt_chain.specs.Turns.{turned_times, single}
 use Rattle.wt_chain.specs.Good.{GoodChain, GoodLoop, GoodEnd, Grows}
 use Rattle.wt_chain.proofs.Turned.{wide, high}
 use Rattle.wt_scale.specs.Sizes.{size_from, turns_size, size_of, magnitude}
-use Rattle.wt_scale.proofs.Standing.{Standing, larger_from, larger_turns, steps_up, turns_up, anew}
+use Rattle.wt_scale.proofs.Standing.{Standing, larger_turns, steps_up, turns_up, anew}
 
 -- where each tile grows to two cells at least, a run of cells grows to twice its length
-twice : (f : ℕ → ℕ) (n : ℕ) → ((t : ℕ) → t < n → 2 ≤ f t) → (m : ℕ) (a : ℕ → ℕ) → ((k : ℕ) → k < m → a k < n) → m + m ≤ total f (listed m a)
+pub twice : (f : ℕ → ℕ) (n : ℕ) → ((t : ℕ) → t < n → 2 ≤ f t) → (m : ℕ) (a : ℕ → ℕ) → ((k : ℕ) → k < m → a k < n) → m + m ≤ total f (listed m a)
 twice f n h zero a b = omega arith
 twice f n h (suc m) a b = let x = h (a 0) (b 0 (omega arith)) in let r = twice f n h m (λ k. a (suc k)) (λ k lt. b (suc k) (omega arith)) in omega arith
 
@@ -63,10 +62,10 @@ doubled k = pow-succ' 2 k ∙ (let p = 2 ^ k in omega arith)
 
 module _ (l : RawLink) (ls : List RawLink) (list : List ℕ) (e : ℕ) (linked : AreLinked (fine_of l) (l ∷ ls)) (ren : IsRenaming (last_set (coarse_of l) ls).tiles (fine_of l).tiles list)
     (grows : (t : ℕ) → t < length (fine_of l).tiles → Grows (l ∷ ls) list e t) where
-  grow_wide : (t : ℕ) → t < length (fine_of l).tiles → 2 ≤ width (turns One (l ∷ ls) list e) t
+  pub grow_wide : (t : ℕ) → t < length (fine_of l).tiles → 2 ≤ width (turns One (l ∷ ls) list e) t
   grow_wide t lt = let g = (grows t lt).wide in let w = wide (l ∷ ls) list e t in omega arith
 
-  grow_high : (t : ℕ) → t < length (fine_of l).tiles → 2 ≤ width (turns Two (l ∷ ls) list e) t
+  pub grow_high : (t : ℕ) → t < length (fine_of l).tiles → 2 ≤ width (turns Two (l ∷ ls) list e) t
   grow_high t lt = let g = (grows t lt).high in let w = high (l ∷ ls) list e t in omega arith
 
   -- after k times e turns a component that isn't 0 was at least 2 to the power k
