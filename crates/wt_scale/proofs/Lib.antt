@@ -4,3 +4,5 @@ pub mod Renamed
 pub mod Standing
 pub mod NoPeriods
 pub mod LinkImages
+pub mod RenamedBack
+pub mod Doubling

@@ -7,6 +7,8 @@ ghost use Rattle.wt_grid.specs.Lines.{IsImage};
 ghost use Rattle.wt_grid.specs.Images.{image_grid};
 ghost use Rattle.wt_grid.specs.Shifts.{HasVector};
 ghost use Rattle.wt_pattern.specs.Patterns.{IsPattern};
+ghost use Rattle.wt_tile.specs.declared.tile.Tile.{Tile};
+ghost use Rattle.wt_bijection.specs.Carried.{IsRenaming};
 ghost use Rattle.wt_step.specs.declared.raw.RawStep.{RawStep};
 ghost use Rattle.wt_step.specs.Faults.{step_fault as first_fault};
 ghost use Rattle.wt_step.specs.Meaning.{pieces, IsCoarse};
@@ -16,9 +18,12 @@ ghost use Rattle.wt_pattern.specs.Periods.{IsPeriod};
 ghost use Rattle.wt_chain.specs.declared.raw.RawChain.{RawChain};
 ghost use Rattle.wt_chain.specs.declared.raw.End.TheVariants.{Loop};
 ghost use Rattle.wt_chain.specs.Faults.{chain_fault};
+ghost use Rattle.wt_chain.specs.Sets.{AreLinked};
+ghost use Rattle.wt_chain.specs.Turns.{renamed_back, turned_times};
+ghost use Rattle.wt_chain.specs.Good.{GoodLoop};
 ghost use Rattle.wt_scale.specs.Sizes.{magnitude, size_of};
 ghost use Rattle.wt_scale.specs.Scales.{IsCarried, Lowered, side_below};
-ghost use Rattle.wt_scale.specs.Existence.{ValidImage};
+ghost use Rattle.wt_scale.specs.Existence.{ValidImage, SameSized, TwiceSized};
 
 /// Each valid coarse pattern of a good marker step has an image, and that is valid: the coarse tiles of a
 /// line stand for one or two lines, which match as the step's images say.
@@ -61,4 +66,17 @@ pub fn large_patterns_have_no_period()
 /// than the coarse pattern, and equally large where every coarse tile stands for a single one.
 pub fn link_images_are_valid()
     ensures { (l : RawLink) → link_fault l ≡ None → (q : Grid) → IsPattern (coarse_of l).tiles q → ValidImage l q }
+{}
+
+/// A valid pattern over the set that a renaming leads to is, renamed back, a valid pattern over the other set,
+/// with the same sides.
+pub fn renamed_patterns_are_valid()
+    ensures { (from to : List Tile) (list : List ℕ) → IsRenaming from to list → (g : Grid) → IsPattern to g → SameSized from g (renamed_back list g) }
+{}
+
+/// A valid pattern over the first set of a good loop is, after e turns, a valid pattern over the same set, and
+/// each of its sides is at least twice as long: e turns make every tile at least two cells wide and high.
+pub fn turns_double_patterns()
+    ensures { (l : RawLink) (ls : List RawLink) → AreLinked (fine_of l) (l ∷ ls) → (list : List ℕ) (e : ℕ) → GoodLoop (l ∷ ls) list e
+        → (g : Grid) → IsPattern (fine_of l).tiles g → TwiceSized (fine_of l).tiles g (turned_times (l ∷ ls) list e g) }
 {}

@@ -5,5 +5,5 @@ mod laws;
 
 pub use laws::{
     images_are_valid, large_patterns_have_no_period, link_images_are_valid, patterns_are_lowered,
-    periods_are_carried,
+    periods_are_carried, renamed_patterns_are_valid, turns_double_patterns,
 };
