@@ -34,12 +34,12 @@ through_valid (l ∷ ls) set linked g p =
     let r = through_valid ls (coarse_of l) linked.2 g p in
     let v = link_image l linked.0 (image_through ls g) r.pattern in
     let n = no_smaller l (image_through ls g) in
-    let rw' = r.wide in let rh = r.high in
+    let wide = r.wide in let high = r.high in
     let nw = n.0 in let nh = n.1 in
     record {
       pattern = subst (λ (x : TileList). IsPattern x.tiles (image_under l (image_through ls g))) linked.1 v.pattern;
-      wide = omega (arith, rw', nw);
-      high = omega (arith, rh, nh);
+      wide = omega (arith, wide, nw);
+      high = omega (arith, high, nh);
     }
 
 module _ (l : RawLink) (ls : List RawLink) (list : List ℕ) (linked : AreLinked (fine_of l) (l ∷ ls)) (ren : IsRenaming (last_set (coarse_of l) ls).tiles (fine_of l).tiles list) where

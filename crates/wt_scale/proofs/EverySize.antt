@@ -1,5 +1,5 @@
 -- Over the first set of a good looped chain there are valid patterns of every size.
-use Rattle.std.proofs.Common.{arith, ◌≡◌, ◌≤◌, ◌<◌, ◌+◌, ◌*◌, ◌^◌, ℕ, zero, suc, List, [], ◌∷◌, length, take, drop, Bool, refl, sym, ◌∙◌, subst}
+use Rattle.std.proofs.Common.{arith, ◌≡◌, ◌≤◌, ◌<◌, ◌+◌, ◌*◌, ◌^◌, ℕ, zero, suc, List, [], ◌∷◌, length, take, drop, refl, sym, subst}
 use Rattle.wt_tile.specs.declared.tile.Tile.{Tile}
 use Rattle.wt_tile.specs.declared.tile.TileList.{TileList}
 use Rattle.wt_tile.specs.Matching.{matching}
@@ -12,7 +12,7 @@ use Rattle.wt_grid.proofs.Parts.{grid_grid, below_part, valid_part}
 use Rattle.wt_step.specs.declared.raw.RawLink.{RawLink}
 use Rattle.wt_step.specs.Links.{fine_of}
 use Rattle.wt_chain.specs.declared.raw.RawChain.{RawChain}
-use Rattle.wt_chain.specs.declared.raw.End.TheVariants.{Open, Loop}
+use Rattle.wt_chain.specs.declared.raw.End.TheVariants.{Loop}
 use Rattle.wt_chain.specs.Sets.{last_set, AreLinked}
 use Rattle.wt_chain.specs.Turns.{image_through, turned_times, single}
 use Rattle.wt_chain.specs.Good.{GoodChain, GoodLoop, GoodEnd}
@@ -67,13 +67,13 @@ module _ (l : RawLink) (ls : List RawLink) (linked : AreLinked (fine_of l) (l �
       let r = grown k in
       let t = doubled_sides l ls linked list e good r.grid r.pattern in
       let d = doubled k in
-      let rw' = r.wide in let rh = r.high in
+      let wide = r.wide in let high = r.high in
       let tw = t.wide in let th = t.high in
       record {
         grid = turned_times (l ∷ ls) list e r.grid;
         pattern = t.pattern;
-        wide = omega (arith, d, rw', tw);
-        high = omega (arith, d, rh, th);
+        wide = omega (arith, d, wide, tw);
+        high = omega (arith, d, high, th);
       }
 
 -- images under the steps before the loop are no smaller

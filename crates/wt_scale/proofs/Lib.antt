@@ -6,3 +6,4 @@ pub mod NoPeriods
 pub mod LinkImages
 pub mod RenamedBack
 pub mod Doubling
+pub mod EverySize

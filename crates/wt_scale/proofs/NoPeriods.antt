@@ -57,7 +57,7 @@ turns_add loop a (suc b) side = let z : a + suc b ≡ suc (a + b) = omega arith 
 one_more : (e k : ℕ) → e * suc k ≡ e + e * k
 one_more e k = omega arith
 
-doubled : (k : ℕ) → 2 ^ suc k ≡ 2 ^ k + 2 ^ k
+pub doubled : (k : ℕ) → 2 ^ suc k ≡ 2 ^ k + 2 ^ k
 doubled k = pow-succ' 2 k ∙ (let p = 2 ^ k in omega arith)
 
 module _ (l : RawLink) (ls : List RawLink) (list : List ℕ) (e : ℕ) (linked : AreLinked (fine_of l) (l ∷ ls)) (ren : IsRenaming (last_set (coarse_of l) ls).tiles (fine_of l).tiles list)
@@ -89,7 +89,7 @@ module _ (l : RawLink) (ls : List RawLink) (list : List ℕ) (e : ℕ) (linked :
       twice_as d r p q a b e = omega arith
 
 -- the steps of a run, and those behind the first ones
-linked_apart : (set : TileList) (xs ys : List RawLink) → AreLinked set (xs ++ ys) → AreLinked set xs × AreLinked (last_set set xs) ys
+pub linked_apart : (set : TileList) (xs ys : List RawLink) → AreLinked set (xs ++ ys) → AreLinked set xs × AreLinked (last_set set xs) ys
 linked_apart set [] ys h = (tt, h)
 linked_apart set (x ∷ xs) ys h = let r = linked_apart (coarse_of x) xs ys h.2 in ((h.0, h.1, r.0), r.1)
 
@@ -97,7 +97,7 @@ first_of_run : List RawLink → TileList → TileList
 first_of_run [] set = set
 first_of_run (l ∷ ls) set = fine_of l
 
-run_linked : (set : TileList) (loop : List RawLink) → AreLinked set loop → (l : RawLink) (ls : List RawLink) → loop ≡ l ∷ ls → (AreLinked (fine_of l) (l ∷ ls)) × (fine_of l ≡ set)
+pub run_linked : (set : TileList) (loop : List RawLink) → AreLinked set loop → (l : RawLink) (ls : List RawLink) → loop ≡ l ∷ ls → (AreLinked (fine_of l) (l ∷ ls)) × (fine_of l ≡ set)
 run_linked set [] h l ls e = absurd cc
 run_linked set (x ∷ xs) h l ls e =
     let t : AreLinked set (l ∷ ls) = subst (λ (ys : List RawLink). AreLinked set ys) e h in
@@ -128,7 +128,7 @@ started ts side opposed d c p v w h x = record {
   up_runs = λ i j le lt. length-listed c _;
 }
 
-split_steps : (first : RawLink) (rest loop : List RawLink) (start : ℕ) → drop start (first ∷ rest) ≡ loop → take start (first ∷ rest) ++ loop ≡ first ∷ rest
+pub split_steps : (first : RawLink) (rest loop : List RawLink) (start : ℕ) → drop start (first ∷ rest) ≡ loop → take start (first ∷ rest) ++ loop ≡ first ∷ rest
 split_steps first rest loop start e = ap (λ (ys : List RawLink). take start (first ∷ rest) ++ ys) (sym e) ∙ take-append-drop start (first ∷ rest)
 
 at_start : (first : RawLink) (rest : List RawLink) → AreLinked (fine_of first) (first ∷ rest) → (start : ℕ) (list : List ℕ) (e : ℕ) (loop : List RawLink) → drop start (first ∷ rest) ≡ loop → GoodLoop loop list e
@@ -160,7 +160,7 @@ vector_of g (negsuc a) (pos zero) h = (false, forward_repeated first_axis g (suc
 vector_of g (negsuc a) (pos (suc b)) h = (true, back_repeated first_axis g (suc a) (suc b) (opposite_period first_axis g (negsuc a) (pos (suc b)) h))
 vector_of g (negsuc a) (negsuc b) h = (false, forward_repeated first_axis g (suc a) (suc b) (opposite_period first_axis g (negsuc a) (negsuc b) h))
 
-run_is_linked : (first : RawLink) (rest steps : List RawLink) → steps ≡ first ∷ rest → IsRun steps → AreLinked (fine_of first) (first ∷ rest)
+pub run_is_linked : (first : RawLink) (rest steps : List RawLink) → steps ≡ first ∷ rest → IsRun steps → AreLinked (fine_of first) (first ∷ rest)
 run_is_linked first rest steps e run = subst (λ (xs : List RawLink). IsRun xs) e run
 
 -- No vector of components up to m is a period of a valid pattern of the stated size over the first set.

@@ -37,13 +37,13 @@ module _ (from to : List Tile) (list : List ℕ) (ren : IsRenaming from to list)
       let c = ren.colours1 in
       let e : (tile_at to a).east ≡ (tile_at to b).west = grind (arith, nat_tests, m) in
       let f : (tile_at from (origin list a)).east ≡ (tile_at from (origin list b)).west =
-          sym (goes_back (λ t. t.east) c.origin c.first_back a la) ∙ (ap c.origin e ∙ goes_back (λ t. t.west) c.origin c.second_back b lb) in
+      sym (goes_back (λ t. t.east) c.origin c.first_back a la) ∙ (ap c.origin e ∙ goes_back (λ t. t.west) c.origin c.second_back b lb) in
       grind (arith, nat_tests, f)
   back_matches Two a b la lb m =
       let c = ren.colours2 in
       let e : (tile_at to a).north ≡ (tile_at to b).south = grind (arith, nat_tests, m) in
       let f : (tile_at from (origin list a)).north ≡ (tile_at from (origin list b)).south =
-          sym (goes_back (λ t. t.north) c.origin c.first_back a la) ∙ (ap c.origin e ∙ goes_back (λ t. t.south) c.origin c.second_back b lb) in
+      sym (goes_back (λ t. t.north) c.origin c.first_back a la) ∙ (ap c.origin e ∙ goes_back (λ t. t.south) c.origin c.second_back b lb) in
       grind (arith, nat_tests, f)
 
   module _ (g : Grid) (p : IsPattern to g) where

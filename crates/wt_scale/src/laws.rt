@@ -23,7 +23,7 @@ ghost use Rattle.wt_chain.specs.Turns.{renamed_back, turned_times};
 ghost use Rattle.wt_chain.specs.Good.{GoodLoop};
 ghost use Rattle.wt_scale.specs.Sizes.{magnitude, size_of};
 ghost use Rattle.wt_scale.specs.Scales.{IsCarried, Lowered, side_below};
-ghost use Rattle.wt_scale.specs.Existence.{ValidImage, SameSized, TwiceSized};
+ghost use Rattle.wt_scale.specs.Existence.{ValidImage, SameSized, TwiceSized, HasPattern};
 
 /// Each valid coarse pattern of a good marker step has an image, and that is valid: the coarse tiles of a
 /// line stand for one or two lines, which match as the step's images say.
@@ -79,4 +79,12 @@ pub fn renamed_patterns_are_valid()
 pub fn turns_double_patterns()
     ensures { (l : RawLink) (ls : List RawLink) → AreLinked (fine_of l) (l ∷ ls) → (list : List ℕ) (e : ℕ) → GoodLoop (l ∷ ls) list e
         → (g : Grid) → IsPattern (fine_of l).tiles g → TwiceSized (fine_of l).tiles g (turned_times (l ∷ ls) list e g) }
+{}
+
+/// Valid patterns of every size exist over the first set of a good looped chain: turns of the loop make the
+/// pattern of one tile as large as one likes, images under the steps before the loop are no smaller, and a
+/// part of a valid pattern is valid.
+pub fn every_size_has_a_pattern()
+    ensures { (c : RawChain) → chain_fault c ≡ None → (start e : ℕ) (list : List ℕ) → c.end ≡ Loop start list e → (first : RawLink) (rest : List RawLink) → c.steps ≡ first ∷ rest
+        → (w h : ℕ) → 1 ≤ w → 1 ≤ h → HasPattern (fine_of first).tiles w h }
 {}
