@@ -72,10 +72,10 @@ first_of_lines im q qs = by (is_double im q) refl
 
 -- The first row of a rectangle along an axis.
 
-abbrev row : GridAxis → Grid → List ℕ
+abbrev pub row : GridAxis → Grid → List ℕ
 row axis g = listed (along axis g) (λ k. at axis g k 0)
 
-row_long : (axis : GridAxis) (g : Grid) → length (row axis g) ≡ along axis g
+pub row_long : (axis : GridAxis) (g : Grid) → length (row axis g) ≡ along axis g
 row_long axis g = length-listed (along axis g) (λ k. at axis g k 0)
 
 -- its cells stand first in the lines of its axis
@@ -216,7 +216,7 @@ turned_row axis loop renaming left g h =
     through_row axis loop left (renamed_back renaming g) (renamed_is_grid renaming g h)
     ∙ ap (last_row (stages axis loop left)) (renamed_row axis renaming g h)
 
-times_row : (axis : Axis) (loop : List RawLink) (renaming : List ℕ) (n : ℕ) (g : Grid) → IsGrid g
+pub times_row : (axis : Axis) (loop : List RawLink) (renaming : List ℕ) (n : ℕ) (g : Grid) → IsGrid g
     → row (grid_axis axis) (turned_times loop renaming n g) ≡ last_row (turns axis loop renaming n) (row (grid_axis axis) g)
 times_row axis loop renaming zero g h = refl
 times_row axis loop renaming (suc n) g h =

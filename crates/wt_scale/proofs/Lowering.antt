@@ -1,12 +1,12 @@
 -- A pattern with a period has a coarse pattern with one, for steps of either kind.
-use Rattle.std.proofs.Common.{arith, ◌≡◌, ◌≤◌, ◌<◌, ◌+◌, ◌-◌, ◌*◌, ℕ, List, [], ◌∷◌, ◌++◌, length, Option, None, Some, slice_get, option_map, Bool, true, false, cond, refl, sym, ◌∙◌, ap, subst}
+use Rattle.std.proofs.Common.{arith, ◌≡◌, ◌≤◌, ◌<◌, ◌+◌, ◌*◌, ℕ, List, [], ◌∷◌, length, Option, None, Some, slice_get, option_map, Bool, true, false, cond, refl, sym, ◌∙◌, ap, subst}
 use Rattle.std.proofs.lemmas.List.{append-nil}
 use Rattle.std.proofs.lemmas.Option.{slice_get-map}
 use Rattle.wt_tile.specs.declared.tile.Axis.{Axis}
 use Rattle.wt_tile.specs.declared.tile.Axis.TheVariants.{One, Two}
 use Rattle.wt_tile.specs.Matching.{grid_axis}
 use Rattle.wt_pattern.specs.Patterns.{IsPattern}
-use Rattle.wt_grid.specs.Lines.{Piece, one, two, IsImage, AllLong}
+use Rattle.wt_grid.specs.Lines.{Piece, one, two, AllLong}
 use Rattle.wt_grid.specs.Grid.{Grid, IsGrid, along, across, at, lines}
 use Rattle.wt_grid.specs.Grid.{Axis as GridAxis, one as first_axis, two as second_axis}
 use Rattle.wt_grid.specs.Parts.{core}
@@ -31,7 +31,7 @@ use Rattle.wt_step.specs.declared.raw.RawLink.TheVariants.{Marker, Restrict}
 use Rattle.wt_step.specs.Words.{is_marker}
 use Rattle.wt_step.specs.Good.{GoodStep, GoodRestrict}
 use Rattle.wt_step.specs.Links.{link_fault, fine_of}
-use Rattle.wt_step.specs.Meaning.{line_side, pieces, kept_pieces, cut_core, IsCoarse, IsKept}
+use Rattle.wt_step.specs.Meaning.{line_side, pieces, kept_pieces, cut_core, IsCoarse}
 use Rattle.wt_step.proofs.Goodness.{good_step}
 use Rattle.wt_step.proofs.Restricted.{good_restrict, some_kept, kept_once}
 use Rattle.wt_step.proofs.Desubstitution.{some_coarse}

@@ -1,5 +1,5 @@
 -- No vector is a period of a large valid pattern over the first set of a looped chain.
-use Rattle.std.proofs.Common.{arith, ◌≡◌, ◌⊎◌, ◌≤◌, ◌<◌, ◌+◌, ◌*◌, ◌^◌, ℕ, zero, suc, ℤ, pos, negsuc, List, [], ◌∷◌, ◌++◌, length, take, drop, None, Bool, true, false, refl, sym, ◌∙◌, ap, subst, inl, inr}
+use Rattle.std.proofs.Common.{arith, ◌≡◌, ◌⊎◌, ◌≤◌, ◌<◌, ◌+◌, ◌*◌, ◌^◌, ℕ, zero, suc, ℤ, pos, negsuc, List, [], ◌∷◌, ◌++◌, length, take, drop, Bool, true, false, refl, sym, ◌∙◌, ap, subst, inl, inr}
 use Rattle.std.proofs.lemmas.List.{take-append-drop}
 use Rattle.std.proofs.Math.Nat.{pow-succ'}
 use Rattle.wt_tile.specs.declared.tile.Tile.{Tile}
@@ -7,29 +7,28 @@ use Rattle.wt_tile.specs.declared.tile.TileList.{TileList}
 use Rattle.wt_tile.specs.declared.tile.Axis.TheVariants.{One, Two}
 use Rattle.wt_bijection.specs.Carried.{IsRenaming}
 use Rattle.wt_pattern.specs.Patterns.{IsPattern}
-use Rattle.wt_pattern.specs.Periods.{IsPeriod, IsPeriodAlong}
+use Rattle.wt_pattern.specs.Periods.{IsPeriod}
 use Rattle.wt_pattern.proofs.PeriodLaws.{forward_repeated, back_repeated, opposite_period}
 use Rattle.wt_grid.specs.Grid.{Grid, at, listed}
 use Rattle.wt_grid.specs.Grid.{one as first_axis, two as second_axis}
 use Rattle.wt_grid.specs.Shifts.{HasVector}
-use Rattle.wt_grid.specs.Widths.{Stage, last_row, total, width}
+use Rattle.wt_grid.specs.Widths.{Stage, total, width}
 use Rattle.wt_grid.specs.Traces.{segment}
 use Rattle.wt_grid.proofs.Bridge.{length-listed}
 use Rattle.wt_grid.proofs.Widths.{length_last}
 use Rattle.wt_step.specs.declared.raw.RawLink.{RawLink}
-use Rattle.wt_step.specs.Links.{link_fault, fine_of, coarse_of}
+use Rattle.wt_step.specs.Links.{fine_of, coarse_of}
 use Rattle.wt_chain.specs.declared.raw.RawChain.{RawChain}
-use Rattle.wt_chain.specs.declared.raw.End.TheVariants.{Open, Loop}
+use Rattle.wt_chain.specs.declared.raw.End.TheVariants.{Loop}
 use Rattle.wt_chain.specs.Sets.{last_set, AreLinked, IsRun}
 use Rattle.wt_chain.specs.Growth.{stages, turns}
-use Rattle.wt_chain.specs.Turns.{turned_times, single}
 use Rattle.wt_chain.specs.Good.{GoodChain, GoodLoop, GoodEnd, Grows}
 use Rattle.wt_chain.proofs.Turned.{wide, high}
 use Rattle.wt_scale.specs.Sizes.{size_from, turns_size, size_of, magnitude}
-use Rattle.wt_scale.proofs.Standing.{Standing, larger_from, larger_turns, steps_up, turns_up, anew}
+use Rattle.wt_scale.proofs.Standing.{Standing, larger_turns, steps_up, turns_up, anew}
 
 -- where each tile grows to two cells at least, a run of cells grows to twice its length
-twice : (f : ℕ → ℕ) (n : ℕ) → ((t : ℕ) → t < n → 2 ≤ f t) → (m : ℕ) (a : ℕ → ℕ) → ((k : ℕ) → k < m → a k < n) → m + m ≤ total f (listed m a)
+pub twice : (f : ℕ → ℕ) (n : ℕ) → ((t : ℕ) → t < n → 2 ≤ f t) → (m : ℕ) (a : ℕ → ℕ) → ((k : ℕ) → k < m → a k < n) → m + m ≤ total f (listed m a)
 twice f n h zero a b = omega arith
 twice f n h (suc m) a b = let x = h (a 0) (b 0 (omega arith)) in let r = twice f n h m (λ k. a (suc k)) (λ k lt. b (suc k) (omega arith)) in omega arith
 
@@ -58,15 +57,15 @@ turns_add loop a (suc b) side = let z : a + suc b ≡ suc (a + b) = omega arith 
 one_more : (e k : ℕ) → e * suc k ≡ e + e * k
 one_more e k = omega arith
 
-doubled : (k : ℕ) → 2 ^ suc k ≡ 2 ^ k + 2 ^ k
+pub doubled : (k : ℕ) → 2 ^ suc k ≡ 2 ^ k + 2 ^ k
 doubled k = pow-succ' 2 k ∙ (let p = 2 ^ k in omega arith)
 
 module _ (l : RawLink) (ls : List RawLink) (list : List ℕ) (e : ℕ) (linked : AreLinked (fine_of l) (l ∷ ls)) (ren : IsRenaming (last_set (coarse_of l) ls).tiles (fine_of l).tiles list)
     (grows : (t : ℕ) → t < length (fine_of l).tiles → Grows (l ∷ ls) list e t) where
-  grow_wide : (t : ℕ) → t < length (fine_of l).tiles → 2 ≤ width (turns One (l ∷ ls) list e) t
+  pub grow_wide : (t : ℕ) → t < length (fine_of l).tiles → 2 ≤ width (turns One (l ∷ ls) list e) t
   grow_wide t lt = let g = (grows t lt).wide in let w = wide (l ∷ ls) list e t in omega arith
 
-  grow_high : (t : ℕ) → t < length (fine_of l).tiles → 2 ≤ width (turns Two (l ∷ ls) list e) t
+  pub grow_high : (t : ℕ) → t < length (fine_of l).tiles → 2 ≤ width (turns Two (l ∷ ls) list e) t
   grow_high t lt = let g = (grows t lt).high in let w = high (l ∷ ls) list e t in omega arith
 
   -- after k times e turns a component that isn't 0 was at least 2 to the power k
@@ -90,7 +89,7 @@ module _ (l : RawLink) (ls : List RawLink) (list : List ℕ) (e : ℕ) (linked :
       twice_as d r p q a b e = omega arith
 
 -- the steps of a run, and those behind the first ones
-linked_apart : (set : TileList) (xs ys : List RawLink) → AreLinked set (xs ++ ys) → AreLinked set xs × AreLinked (last_set set xs) ys
+pub linked_apart : (set : TileList) (xs ys : List RawLink) → AreLinked set (xs ++ ys) → AreLinked set xs × AreLinked (last_set set xs) ys
 linked_apart set [] ys h = (tt, h)
 linked_apart set (x ∷ xs) ys h = let r = linked_apart (coarse_of x) xs ys h.2 in ((h.0, h.1, r.0), r.1)
 
@@ -98,7 +97,7 @@ first_of_run : List RawLink → TileList → TileList
 first_of_run [] set = set
 first_of_run (l ∷ ls) set = fine_of l
 
-run_linked : (set : TileList) (loop : List RawLink) → AreLinked set loop → (l : RawLink) (ls : List RawLink) → loop ≡ l ∷ ls → (AreLinked (fine_of l) (l ∷ ls)) × (fine_of l ≡ set)
+pub run_linked : (set : TileList) (loop : List RawLink) → AreLinked set loop → (l : RawLink) (ls : List RawLink) → loop ≡ l ∷ ls → (AreLinked (fine_of l) (l ∷ ls)) × (fine_of l ≡ set)
 run_linked set [] h l ls e = absurd cc
 run_linked set (x ∷ xs) h l ls e =
     let t : AreLinked set (l ∷ ls) = subst (λ (ys : List RawLink). AreLinked set ys) e h in
@@ -129,7 +128,7 @@ started ts side opposed d c p v w h x = record {
   up_runs = λ i j le lt. length-listed c _;
 }
 
-split_steps : (first : RawLink) (rest loop : List RawLink) (start : ℕ) → drop start (first ∷ rest) ≡ loop → take start (first ∷ rest) ++ loop ≡ first ∷ rest
+pub split_steps : (first : RawLink) (rest loop : List RawLink) (start : ℕ) → drop start (first ∷ rest) ≡ loop → take start (first ∷ rest) ++ loop ≡ first ∷ rest
 split_steps first rest loop start e = ap (λ (ys : List RawLink). take start (first ∷ rest) ++ ys) (sym e) ∙ take-append-drop start (first ∷ rest)
 
 at_start : (first : RawLink) (rest : List RawLink) → AreLinked (fine_of first) (first ∷ rest) → (start : ℕ) (list : List ℕ) (e : ℕ) (loop : List RawLink) → drop start (first ∷ rest) ≡ loop → GoodLoop loop list e
@@ -161,7 +160,7 @@ vector_of g (negsuc a) (pos zero) h = (false, forward_repeated first_axis g (suc
 vector_of g (negsuc a) (pos (suc b)) h = (true, back_repeated first_axis g (suc a) (suc b) (opposite_period first_axis g (negsuc a) (pos (suc b)) h))
 vector_of g (negsuc a) (negsuc b) h = (false, forward_repeated first_axis g (suc a) (suc b) (opposite_period first_axis g (negsuc a) (negsuc b) h))
 
-run_is_linked : (first : RawLink) (rest steps : List RawLink) → steps ≡ first ∷ rest → IsRun steps → AreLinked (fine_of first) (first ∷ rest)
+pub run_is_linked : (first : RawLink) (rest steps : List RawLink) → steps ≡ first ∷ rest → IsRun steps → AreLinked (fine_of first) (first ∷ rest)
 run_is_linked first rest steps e run = subst (λ (xs : List RawLink). IsRun xs) e run
 
 -- No vector of components up to m is a period of a valid pattern of the stated size over the first set.

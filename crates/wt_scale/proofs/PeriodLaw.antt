@@ -1,5 +1,5 @@
 -- A period of a valid pattern is a period of its coarse pattern.
-use Rattle.std.proofs.Common.{arith, ◌≡◌, ◌≤◌, ◌<◌, ◌+◌, ℕ, Bool, true, false, cond, sym, subst}
+use Rattle.std.proofs.Common.{arith, ◌≤◌, ◌<◌, ◌+◌, ℕ, Bool, true, false, cond, sym, subst}
 use Rattle.wt_tile.specs.declared.tile.Axis.{Axis}
 use Rattle.wt_tile.specs.Matching.{grid_axis, tile_axis}
 use Rattle.wt_pattern.specs.Patterns.{IsPattern}

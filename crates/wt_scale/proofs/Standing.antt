@@ -1,5 +1,5 @@
 -- Patterns with a period, followed up through steps and turns of a loop.
-use Rattle.std.proofs.Common.{arith, ◌≡◌, ◌≤◌, ◌<◌, ◌+◌, ◌*◌, ℕ, zero, suc, List, [], ◌∷◌, length, map, get_or, None, Bool, true, false, ◌&&◌, refl, sym, ◌∙◌, ap, subst}
+use Rattle.std.proofs.Common.{arith, ◌≡◌, ◌≤◌, ◌+◌, ℕ, zero, suc, List, [], ◌∷◌, None, Bool, refl, sym, ◌∙◌, ap, subst}
 use Rattle.std.proofs.Math.ListN.{get_or-map}
 use Rattle.wt_tile.specs.declared.tile.Tile.{Tile}
 use Rattle.wt_tile.specs.declared.tile.TileList.{TileList}
@@ -12,21 +12,20 @@ use Rattle.wt_morphism.specs.declared.image.Image.{Image}
 use Rattle.wt_morphism.specs.declared.image.Image.TheVariants.{One as Single, Two as Double}
 use Rattle.wt_grid.specs.Lines.{one}
 use Rattle.wt_grid.specs.Grid.{Grid}
-use Rattle.wt_grid.specs.Grid.{Axis as GridAxis, one as first_axis, two as second_axis}
+use Rattle.wt_grid.specs.Grid.{one as first_axis, two as second_axis}
 use Rattle.wt_grid.specs.Shifts.{HasVector}
 use Rattle.wt_grid.specs.Widths.{Stage}
-use Rattle.wt_grid.specs.Images.{piece_at, first_tile}
+use Rattle.wt_grid.specs.Images.{first_tile}
 use Rattle.wt_grid.specs.Traces.{piece_tiles, IsStageOf, IsTraced}
 use Rattle.wt_grid.proofs.Bridge.{length-listed}
-use Rattle.wt_step.specs.declared.raw.RawStep.{RawStep}
 use Rattle.wt_step.specs.declared.raw.RawLink.{RawLink}
 use Rattle.wt_step.specs.declared.raw.RawLink.TheVariants.{Marker, Restrict}
 use Rattle.wt_step.specs.Links.{link_fault, fine_of, coarse_of}
 use Rattle.wt_step.specs.Words.{image_at}
-use Rattle.wt_step.specs.Meaning.{piece, pieces}
+use Rattle.wt_step.specs.Meaning.{piece}
 use Rattle.wt_chain.specs.Sets.{last_set, AreLinked}
-use Rattle.wt_chain.specs.Growth.{image_of, is_along, tiles_of, first_of, stage, renaming_stage, stages, turn, turns}
-use Rattle.wt_scale.specs.Scales.{Lowered, link_pieces, lies_along, same_grid_axis, side_below}
+use Rattle.wt_chain.specs.Growth.{tiles_of, first_of, stage, renaming_stage, stages, turn, turns}
+use Rattle.wt_scale.specs.Scales.{link_pieces, lies_along, same_grid_axis, side_below}
 use Rattle.wt_scale.specs.Sizes.{size_from, turns_size}
 use Rattle.wt_scale.proofs.Lowering.{lowered}
 use Rattle.wt_scale.proofs.Renamed.{renamed, renamed_width, renamed_height, renamed_pattern, renamed_repeats, renamed_traced}

@@ -7,17 +7,23 @@ ghost use Rattle.wt_grid.specs.Lines.{IsImage};
 ghost use Rattle.wt_grid.specs.Images.{image_grid};
 ghost use Rattle.wt_grid.specs.Shifts.{HasVector};
 ghost use Rattle.wt_pattern.specs.Patterns.{IsPattern};
+ghost use Rattle.wt_tile.specs.declared.tile.Tile.{Tile};
+ghost use Rattle.wt_bijection.specs.Carried.{IsRenaming};
 ghost use Rattle.wt_step.specs.declared.raw.RawStep.{RawStep};
 ghost use Rattle.wt_step.specs.Faults.{step_fault as first_fault};
 ghost use Rattle.wt_step.specs.Meaning.{pieces, IsCoarse};
 ghost use Rattle.wt_step.specs.declared.raw.RawLink.{RawLink};
-ghost use Rattle.wt_step.specs.Links.{link_fault, fine_of};
+ghost use Rattle.wt_step.specs.Links.{link_fault, fine_of, coarse_of};
 ghost use Rattle.wt_pattern.specs.Periods.{IsPeriod};
 ghost use Rattle.wt_chain.specs.declared.raw.RawChain.{RawChain};
 ghost use Rattle.wt_chain.specs.declared.raw.End.TheVariants.{Loop};
 ghost use Rattle.wt_chain.specs.Faults.{chain_fault};
+ghost use Rattle.wt_chain.specs.Sets.{AreLinked};
+ghost use Rattle.wt_chain.specs.Turns.{renamed_back, turned_times};
+ghost use Rattle.wt_chain.specs.Good.{GoodLoop};
 ghost use Rattle.wt_scale.specs.Sizes.{magnitude, size_of};
 ghost use Rattle.wt_scale.specs.Scales.{IsCarried, Lowered, side_below};
+ghost use Rattle.wt_scale.specs.Existence.{ValidImage, SameSized, TwiceSized, HasPattern};
 
 /// Each valid coarse pattern of a good marker step has an image, and that is valid: the coarse tiles of a
 /// line stand for one or two lines, which match as the step's images say.
@@ -54,4 +60,31 @@ pub fn large_patterns_have_no_period()
     ensures { (c : RawChain) → chain_fault c ≡ None → (start e : ℕ) (list : List ℕ) → c.end ≡ Loop start list e → (first : RawLink) (rest : List RawLink) → c.steps ≡ first ∷ rest
         → (x y : ℤ) (m k : ℕ) → magnitude x ≤ m → magnitude y ≤ m → m < 2 ^ k → (1 ≤ magnitude x) ⊎ (1 ≤ magnitude y)
         → (p : Grid) → IsPattern (fine_of first).tiles p → size_of c.steps start e k m ≤ p.width → size_of c.steps start e k m ≤ p.height → IsPeriod p x y → ⊥ }
+{}
+
+/// Each valid coarse pattern of a good step, of either kind, has an image, and that is valid. It is no smaller
+/// than the coarse pattern, and equally large where every coarse tile stands for a single one.
+pub fn link_images_are_valid()
+    ensures { (l : RawLink) → link_fault l ≡ None → (q : Grid) → IsPattern (coarse_of l).tiles q → ValidImage l q }
+{}
+
+/// A valid pattern over the set that a renaming leads to is, renamed back, a valid pattern over the other set,
+/// with the same sides.
+pub fn renamed_patterns_are_valid()
+    ensures { (from to : List Tile) (list : List ℕ) → IsRenaming from to list → (g : Grid) → IsPattern to g → SameSized from g (renamed_back list g) }
+{}
+
+/// A valid pattern over the first set of a good loop is, after e turns, a valid pattern over the same set, and
+/// each of its sides is at least twice as long: e turns make every tile at least two cells wide and high.
+pub fn turns_double_patterns()
+    ensures { (l : RawLink) (ls : List RawLink) → AreLinked (fine_of l) (l ∷ ls) → (list : List ℕ) (e : ℕ) → GoodLoop (l ∷ ls) list e
+        → (g : Grid) → IsPattern (fine_of l).tiles g → TwiceSized (fine_of l).tiles g (turned_times (l ∷ ls) list e g) }
+{}
+
+/// Valid patterns of every size exist over the first set of a good looped chain: turns of the loop make the
+/// pattern of one tile as large as one likes, images under the steps before the loop are no smaller, and a
+/// part of a valid pattern is valid.
+pub fn every_size_has_a_pattern()
+    ensures { (c : RawChain) → chain_fault c ≡ None → (start e : ℕ) (list : List ℕ) → c.end ≡ Loop start list e → (first : RawLink) (rest : List RawLink) → c.steps ≡ first ∷ rest
+        → (w h : ℕ) → 1 ≤ w → 1 ≤ h → HasPattern (fine_of first).tiles w h }
 {}
