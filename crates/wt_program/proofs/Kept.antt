@@ -19,12 +19,13 @@ use Rattle.wt_step.proofs.Desubstitution.{some_coarse, one_coarse, same_blocks}
 use Rattle.wt_step.proofs.Restricted.{good_restrict, some_kept, one_kept}
 use Rattle.wt_chain.proofs.Goodness.{good}
 use Rattle.wt_scale.proofs.NoPeriods.{no_period}
+use Rattle.wt_scale.proofs.EverySize.{every_size}
 use Rattle.wt_program.specs.Commands.{Command, check, command}
 use Rattle.wt_program.specs.Replies.{Answer, said}
 use Rattle.wt_program.specs.Checks.{chain_of, judged, checked, check_reply}
 use Rattle.wt_program.specs.Answers.{IsAnswerBy, IsAnswerTo}
 use Rattle.wt_program.specs.Outcomes.{IsAnswered}
-use Rattle.wt_program.specs.Promise.{IsChainThat, TakesApart, EveryStepTakesApart, HasNoPeriod}
+use Rattle.wt_program.specs.Promise.{IsChainThat, TakesApart, EveryStepTakesApart, HasNoPeriod, HasEverySize}
 
 none_under : (k : ℕ) (a : Option StepFault) → option_map (Step k) a ≡ None → a ≡ None
 none_under k None e = refl
@@ -67,6 +68,9 @@ every_step c e = λ k link at. takes_apart link (steps_good c e k link at)
 
 pub never_repeats : (c : RawChain) → chain_fault c ≡ None → HasNoPeriod c
 never_repeats c e = no_period c (good c e)
+
+pub ever_larger : (c : RawChain) → chain_fault c ≡ None → HasEverySize c
+ever_larger c e = every_size c (good c e)
 
 -- What holds of every good chain holds of the chain that the bytes are, where the answer to `check` is yes.
 module _ (holds : RawChain → Type 0) (keeps : (c : RawChain) → chain_fault c ≡ None → holds c) where

@@ -16,6 +16,7 @@ use Rattle.wt_step.specs.Coarse.{IsCoarseOf}
 use Rattle.wt_chain.specs.declared.raw.RawChain.{RawChain}
 use Rattle.wt_chain.specs.declared.raw.End.TheVariants.{Loop}
 use Rattle.wt_scale.specs.Sizes.{magnitude, size_of}
+use Rattle.wt_scale.specs.Existence.{HasPattern}
 use Rattle.wt_program.specs.Checks.{chain_of}
 
 -- a rectangle is of the step's margin where its core has three lines along the step's axis and one across; for a restrict step, where its core isn't empty
@@ -46,6 +47,11 @@ abbrev pub HasNoPeriod : RawChain → Type 0
 HasNoPeriod chain = (start e : ℕ) (list : List ℕ) → chain.end ≡ Loop start list e → (first : RawLink) (rest : List RawLink) → chain.steps ≡ first ∷ rest
     → (x y : ℤ) (m k : ℕ) → magnitude x ≤ m → magnitude y ≤ m → m < 2 ^ k → (1 ≤ magnitude x) ⊎ (1 ≤ magnitude y)
     → (p : Grid) → IsPattern (fine_of first).tiles p → size_of chain.steps start e k m ≤ p.width → size_of chain.steps start e k m ≤ p.height → IsPeriod p x y → ⊥
+
+-- where the chain is looped, there are valid patterns of every size over its first set
+abbrev pub HasEverySize : RawChain → Type 0
+HasEverySize chain = (start e : ℕ) (list : List ℕ) → chain.end ≡ Loop start list e → (first : RawLink) (rest : List RawLink) → chain.steps ≡ first ∷ rest
+    → (w h : ℕ) → 1 ≤ w → 1 ≤ h → HasPattern (fine_of first).tiles w h
 
 -- the bytes are those of a chain of which this holds
 abbrev pub IsChainThat : (RawChain → Type 0) → List ℕ → Type 0
