@@ -15,14 +15,17 @@ use Rattle.wt_chain.specs.declared.raw.Refusal.{Refusal}
 use Rattle.wt_chain.specs.declared.raw.Refusal.TheVariants.{Step}
 use Rattle.wt_chain.specs.Faults.{chain_fault, size_fault, steps_fault, steps_fault_from, step_fault_at, end_fault}
 use Rattle.wt_step.proofs.Goodness.{good_step}
-use Rattle.wt_step.proofs.Desubstitution.{some_coarse, one_coarse}
+use Rattle.wt_step.proofs.Desubstitution.{some_coarse, one_coarse, same_blocks}
 use Rattle.wt_step.proofs.Restricted.{good_restrict, some_kept, one_kept}
+use Rattle.wt_chain.proofs.Goodness.{good}
+use Rattle.wt_scale.proofs.NoPeriods.{no_period}
+use Rattle.wt_scale.proofs.EverySize.{every_size}
 use Rattle.wt_program.specs.Commands.{Command, check, command}
 use Rattle.wt_program.specs.Replies.{Answer, said}
 use Rattle.wt_program.specs.Checks.{chain_of, judged, checked, check_reply}
 use Rattle.wt_program.specs.Answers.{IsAnswerBy, IsAnswerTo}
 use Rattle.wt_program.specs.Outcomes.{IsAnswered}
-use Rattle.wt_program.specs.Promise.{Desubstitutes, TakesApart, EveryStepTakesApart, IsOfMargin, IsApartIn}
+use Rattle.wt_program.specs.Promise.{IsChainThat, TakesApart, EveryStepTakesApart, HasNoPeriod, HasEverySize}
 
 none_under : (k : ℕ) (a : Option StepFault) → option_map (Step k) a ≡ None → a ≡ None
 none_under k None e = refl
@@ -52,34 +55,44 @@ unfolding link_fault
 takes_apart (Marker s) e = record {
   some = λ p valid margin. some_coarse s (good_step s e) p valid margin.0 margin.1;
   one = λ p q r valid margin. one_coarse s (good_step s e) p q r margin.1;
+  others = λ p q valid margin grid is r whole. same_blocks s (good_step s e) p q r margin.1 whole is;
 }
 takes_apart (Restrict s) e = record {
   some = λ p valid margin. some_kept s (good_restrict s e) p valid margin.0 margin.1;
   one = λ p q r valid margin. one_kept s (good_restrict s e) p q r margin.1;
+  others = λ p q valid margin grid is r whole apart. one_kept s (good_restrict s e) p q r margin.1 grid whole is apart;
 }
 
 pub every_step : (c : RawChain) → chain_fault c ≡ None → EveryStepTakesApart c
 every_step c e = λ k link at. takes_apart link (steps_good c e k link at)
 
-judged_well : (bytes : List ℕ) (c : RawChain) (f : Option Refusal) → chain_of bytes ≡ Ok c → chain_fault c ≡ f → (said (judged c f)).status ≡ 0 → Desubstitutes bytes
-judged_well bytes c None e g s = (c, e, every_step c g)
-judged_well bytes c (Some refusal) e g s = absurd cc
+pub never_repeats : (c : RawChain) → chain_fault c ≡ None → HasNoPeriod c
+never_repeats c e = no_period c (good c e)
 
-checked_well : (bytes : List ℕ) (r : Result RawChain (TextFault What)) → chain_of bytes ≡ r → (said (checked r)).status ≡ 0 → Desubstitutes bytes
-checked_well bytes (Ok c) e s = judged_well bytes c (chain_fault c) e refl s
-checked_well bytes (Err (syntax_at n)) e s = absurd cc
-checked_well bytes (Err (limit_at what n)) e s = absurd cc
+pub ever_larger : (c : RawChain) → chain_fault c ≡ None → HasEverySize c
+ever_larger c e = every_size c (good c e)
 
-answered_well : (b : Bool) (bytes : List ℕ) (answer : Answer) → IsAnswerTo b check bytes answer → answer.status ≡ 0 → Desubstitutes bytes
-answered_well true bytes answer is s = absurd (let t : 5 ≡ 0 = sym (ap (λ (a : Answer). a.status) is) ∙ s in cc)
-answered_well false bytes answer is s =
-    let t : (said (check_reply bytes)).status ≡ 0 = sym (ap (λ (a : Answer). a.status) (is.2 ∙ ap said is.1)) ∙ s in
-    checked_well bytes (chain_of bytes) refl t
+-- What holds of every good chain holds of the chain that the bytes are, where the answer to `check` is yes.
+module _ (holds : RawChain → Type 0) (keeps : (c : RawChain) → chain_fault c ≡ None → holds c) where
+  judged_well : (bytes : List ℕ) (c : RawChain) (f : Option Refusal) → chain_of bytes ≡ Ok c → chain_fault c ≡ f → (said (judged c f)).status ≡ 0 → IsChainThat holds bytes
+  judged_well bytes c None e g s = (c, e, keeps c g)
+  judged_well bytes c (Some refusal) e g s = absurd cc
 
-pub promised : (words : List (List ℕ)) (left old new : Option (List ℕ)) (status : ℕ) → status ≡ 0 → command words ≡ Some check
-    → IfSome left (λ bytes. IsAnswered words bytes old new status) → IfSome left Desubstitutes
-promised words None old new status z e is = tt
-promised words (Some bytes) old new status z e is =
-    let a = is (λ h. absurd (omega arith)) (λ h. absurd (omega arith)) (λ h. absurd (omega arith)) in
-    let by : IsAnswerTo (nat_lt 16777216 (length bytes)) check bytes a.0 = subst (λ (o : Option Command). IsAnswerBy o bytes a.0) e a.1 in
-    answered_well (nat_lt 16777216 (length bytes)) bytes a.0 by (sym a.2 ∙ z)
+  checked_well : (bytes : List ℕ) (r : Result RawChain (TextFault What)) → chain_of bytes ≡ r → (said (checked r)).status ≡ 0 → IsChainThat holds bytes
+  checked_well bytes (Ok c) e s = judged_well bytes c (chain_fault c) e refl s
+  checked_well bytes (Err (syntax_at n)) e s = absurd cc
+  checked_well bytes (Err (limit_at what n)) e s = absurd cc
+
+  answered_well : (b : Bool) (bytes : List ℕ) (answer : Answer) → IsAnswerTo b check bytes answer → answer.status ≡ 0 → IsChainThat holds bytes
+  answered_well true bytes answer is s = absurd (let t : 5 ≡ 0 = sym (ap (λ (a : Answer). a.status) is) ∙ s in cc)
+  answered_well false bytes answer is s =
+      let t : (said (check_reply bytes)).status ≡ 0 = sym (ap (λ (a : Answer). a.status) (is.2 ∙ ap said is.1)) ∙ s in
+      checked_well bytes (chain_of bytes) refl t
+
+  pub promised : (words : List (List ℕ)) (left old new : Option (List ℕ)) (status : ℕ) → status ≡ 0 → command words ≡ Some check
+      → IfSome left (λ bytes. IsAnswered words bytes old new status) → IfSome left (IsChainThat holds)
+  promised words None old new status z e is = tt
+  promised words (Some bytes) old new status z e is =
+      let a = is (λ h. absurd (omega arith)) (λ h. absurd (omega arith)) (λ h. absurd (omega arith)) in
+      let by : IsAnswerTo (nat_lt 16777216 (length bytes)) check bytes a.0 = subst (λ (o : Option Command). IsAnswerBy o bytes a.0) e a.1 in
+      answered_well (nat_lt 16777216 (length bytes)) bytes a.0 by (sym a.2 ∙ z)

@@ -52,7 +52,7 @@ fn is_answered(alloc: Global, row: &Row) -> Result<bool, Fail> {
 
 #[test]
 fn answers_the_worked_rows(rt: HostRuntime) -> Result<(), Fail> {
-    const ROWS: [Row; 14] = [
+    const ROWS: [Row; 17] = [
         ("check", &[], 0, "accepted open\nsets 3 4\n"),
         (
             "check",
@@ -96,6 +96,24 @@ fn answers_the_worked_rows(rt: HostRuntime) -> Result<(), Fail> {
             &[("radius 0", "radius 5")],
             5,
             "limit radius line 3\n",
+        ),
+        (
+            "desub 0",
+            &[("end\n", "end\npattern 5 1\n0 2 1 2 1\n")],
+            0,
+            "coarse 2 1\ncut 0 1\n2 3\n",
+        ),
+        (
+            "desub 0",
+            &[("end\n", "end\npattern 3 1\n2 2 1\n")],
+            1,
+            "refused not valid axis 1 at 0 0\n",
+        ),
+        (
+            "desub 0",
+            &[("end\n", "end\npattern 2 1\n1 2\n")],
+            1,
+            "refused too small\n",
         ),
         ("", &[], 2, "usage\n"),
         ("expand 2", &[], 2, "usage\n"),

@@ -6,7 +6,7 @@ ghost use Rattle.wt_io.specs.Took.{TookUpTo};
 ghost use Rattle.wt_program.specs.Commands.{check, command, named, word_bytes};
 ghost use Rattle.wt_program.specs.Answers.{IsReply};
 ghost use Rattle.wt_program.specs.Outcomes.{IsAnswered, IsCutOff};
-ghost use Rattle.wt_program.specs.Promise.{Desubstitutes};
+ghost use Rattle.wt_program.specs.Promise.{IsChainThat, EveryStepTakesApart, HasNoPeriod, HasEverySize};
 
 use crate::checking::check_reply;
 use crate::command::{Command, command_of};
@@ -49,7 +49,9 @@ pub fn wang<S: Source, K: Sink>(alloc: Global, words: &[String], src: &mut S, si
     ensures answered { IfSome (S.left src.old) (λ bytes. IsAnswered (word_bytes words.now) bytes (K.held sink.old) (K.held sink.new) result) }
     ensures usage { command (word_bytes words.now) ≡ None → ((result ≡ 2) ⊎ (result ≡ 4)) × (src.new ≡ src.old) }
     ensures usage_only { result ≡ 2 → (command (word_bytes words.now) ≡ None) × Appends (K.held sink.old) (K.held sink.new) (codes "usage\n") }
-    ensures desubstitutes { result ≡ 0 → command (word_bytes words.now) ≡ Some check → IfSome (S.left src.old) Desubstitutes }
+    ensures desubstitutes { result ≡ 0 → command (word_bytes words.now) ≡ Some check → IfSome (S.left src.old) (IsChainThat EveryStepTakesApart) }
+    ensures every_size { result ≡ 0 → command (word_bytes words.now) ≡ Some check → IfSome (S.left src.old) (IsChainThat HasEverySize) }
+    ensures no_period { result ≡ 0 → command (word_bytes words.now) ≡ Some check → IfSome (S.left src.old) (IsChainThat HasNoPeriod) }
     ensures read_fault { result ≡ 3 → Rose (S.faults src.old) (S.faults src.new) × Appends (K.held sink.old) (K.held sink.new) (codes "read fault\n") }
     ensures read_within { result ≡ 3 → TookUpTo (S.left src.old) (S.left src.new) 16777216 }
     ensures write_fault { result ≡ 4 → Rose (K.faults sink.old) (K.faults sink.new) }

@@ -4,8 +4,9 @@ use Rattle.wt_io.specs.Causes.{Rose}
 use Rattle.wt_program.specs.declared.reply.Reply.TheVariants.{Limit}
 use Rattle.wt_program.specs.Replies.{usage, said}
 use Rattle.wt_program.specs.Commands.{named, word_bytes}
+use Rattle.wt_program.specs.Promise.{EveryStepTakesApart, HasNoPeriod, HasEverySize}
 use Rattle.wt_program.proofs.Told.{no_command, whole_input, long_input, told, told_as, cut_off}
-use Rattle.wt_program.proofs.Kept.{promised}
+use Rattle.wt_program.proofs.Kept.{promised, every_step, never_repeats, ever_larger}
 use Rattle.wt_program.proofs.top.wang.Goals as goal
 
 pub returns-in_default-clause-answered : goal.returns-in_default-clause-answered
@@ -31,7 +32,13 @@ returns-in-Ok-reply_to-clause-cut_off g c e =
     cut_off (word_bytes c.args.words.now) (g.S.Source.left c.args.src.now) (said reply) (Rose (g.S.Source.faults c.args.src.now) (g.S.Source.faults c.read_all.new.src)) (g.K.Sink.held c.args.sink.now) (g.K.Sink.held c.finish-in-Ok-reply_to.new.sink) c.text.result.now c.text.ensures is (c.finish-in-Ok-reply_to.ensures.prefix e)
 
 pub returns-in-Ok-reply_to-clause-desubstitutes : goal.returns-in-Ok-reply_to-clause-desubstitutes
-returns-in-Ok-reply_to-clause-desubstitutes g c z e = promised (word_bytes c.args.words.now) (g.S.Source.left c.args.src.now) (g.K.Sink.held c.args.sink.now) (g.K.Sink.held c.finish-in-Ok-reply_to.new.sink) c.finish-in-Ok-reply_to.result z e (returns-in-Ok-reply_to-clause-answered g c)
+returns-in-Ok-reply_to-clause-desubstitutes g c z e = promised EveryStepTakesApart every_step (word_bytes c.args.words.now) (g.S.Source.left c.args.src.now) (g.K.Sink.held c.args.sink.now) (g.K.Sink.held c.finish-in-Ok-reply_to.new.sink) c.finish-in-Ok-reply_to.result z e (returns-in-Ok-reply_to-clause-answered g c)
+
+pub returns-in-Ok-reply_to-clause-every_size : goal.returns-in-Ok-reply_to-clause-every_size
+returns-in-Ok-reply_to-clause-every_size g c z e = promised HasEverySize ever_larger (word_bytes c.args.words.now) (g.S.Source.left c.args.src.now) (g.K.Sink.held c.args.sink.now) (g.K.Sink.held c.finish-in-Ok-reply_to.new.sink) c.finish-in-Ok-reply_to.result z e (returns-in-Ok-reply_to-clause-answered g c)
+
+pub returns-in-Ok-reply_to-clause-no_period : goal.returns-in-Ok-reply_to-clause-no_period
+returns-in-Ok-reply_to-clause-no_period g c z e = promised HasNoPeriod never_repeats (word_bytes c.args.words.now) (g.S.Source.left c.args.src.now) (g.K.Sink.held c.args.sink.now) (g.K.Sink.held c.finish-in-Ok-reply_to.new.sink) c.finish-in-Ok-reply_to.result z e (returns-in-Ok-reply_to-clause-answered g c)
 
 pub returns-in-Err-TooLong-clause-answered : goal.returns-in-Err-TooLong-clause-answered
 returns-in-Err-TooLong-clause-answered g c =
