@@ -6,4 +6,5 @@ pub mod NoPeriods
 pub mod LinkImages
 pub mod RenamedBack
 pub mod Doubling
+pub mod Powers
 pub mod EverySize

@@ -30,9 +30,13 @@ pub record TwiceSized (tiles : List Tile) (g h : Grid) : Type 0 where
   pub wide : 2 * g.width ≤ h.width
   pub high : 2 * g.height ≤ h.height
 
+-- a valid pattern of w by h cells
+pub record IsPatternOf (tiles : List Tile) (w h : ℕ) (g : Grid) : Type 0 where
+  pub pattern : IsPattern tiles g
+  pub wide : g.width ≡ w
+  pub high : g.height ≡ h
+
 -- there is a valid pattern of w by h cells
 pub record HasPattern (tiles : List Tile) (w h : ℕ) : Type 0 where
   pub grid : Grid
-  pub pattern : IsPattern tiles grid
-  pub wide : grid.width ≡ w
-  pub high : grid.height ≡ h
+  pub sized : IsPatternOf tiles w h grid

@@ -23,7 +23,8 @@ ghost use Rattle.wt_chain.specs.Turns.{renamed_back, turned_times};
 ghost use Rattle.wt_chain.specs.Good.{GoodLoop};
 ghost use Rattle.wt_scale.specs.Sizes.{magnitude, size_of};
 ghost use Rattle.wt_scale.specs.Scales.{IsCarried, Lowered, side_below};
-ghost use Rattle.wt_scale.specs.Existence.{ValidImage, SameSized, TwiceSized, HasPattern};
+ghost use Rattle.wt_scale.specs.Existence.{ValidImage, SameSized, TwiceSized, IsPatternOf, HasPattern};
+ghost use Rattle.wt_scale.specs.Pick.{power_for, pick};
 
 /// Each valid coarse pattern of a good marker step has an image, and that is valid: the coarse tiles of a
 /// line stand for one or two lines, which match as the step's images say.
@@ -81,9 +82,20 @@ pub fn turns_double_patterns()
         → (g : Grid) → IsPattern (fine_of l).tiles g → TwiceSized (fine_of l).tiles g (turned_times (l ∷ ls) list e g) }
 {}
 
-/// Valid patterns of every size exist over the first set of a good looped chain: turns of the loop make the
-/// pattern of one tile as large as one likes, images under the steps before the loop are no smaller, and a
-/// part of a valid pattern is valid.
+/// The power that is found for a number n is the least k with n ≤ 2^k.
+pub fn least_powers()
+    ensures { (n : ℕ) → (n ≤ 2 ^ power_for n) × ((k : ℕ) → n ≤ 2 ^ k → power_for n ≤ k) }
+{}
+
+/// Over a good looped chain the pick of w by h cells is a valid pattern over the first set, w cells wide and
+/// h cells high: each e turns of the loop at least double the sides of the pattern of tile 0, images under the
+/// steps before the loop are no smaller, and a part of a valid pattern is valid.
+pub fn picks_are_valid()
+    ensures { (c : RawChain) → chain_fault c ≡ None → (start e : ℕ) (list : List ℕ) → c.end ≡ Loop start list e → (first : RawLink) (rest : List RawLink) → c.steps ≡ first ∷ rest
+        → (w h : ℕ) → 1 ≤ w → 1 ≤ h → IsPatternOf (fine_of first).tiles w h (pick c.steps start list e w h) }
+{}
+
+/// Valid patterns of every size exist over the first set of a good looped chain: its picks.
 pub fn every_size_has_a_pattern()
     ensures { (c : RawChain) → chain_fault c ≡ None → (start e : ℕ) (list : List ℕ) → c.end ≡ Loop start list e → (first : RawLink) (rest : List RawLink) → c.steps ≡ first ∷ rest
         → (w h : ℕ) → 1 ≤ w → 1 ≤ h → HasPattern (fine_of first).tiles w h }

@@ -4,7 +4,7 @@
 mod laws;
 
 pub use laws::{
-    every_size_has_a_pattern, images_are_valid, large_patterns_have_no_period,
-    link_images_are_valid, patterns_are_lowered, periods_are_carried, renamed_patterns_are_valid,
-    turns_double_patterns,
+    every_size_has_a_pattern, images_are_valid, large_patterns_have_no_period, least_powers,
+    link_images_are_valid, patterns_are_lowered, periods_are_carried, picks_are_valid,
+    renamed_patterns_are_valid, turns_double_patterns,
 };
