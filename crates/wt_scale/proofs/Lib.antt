@@ -7,3 +7,5 @@ pub mod LinkImages
 pub mod RenamedBack
 pub mod Doubling
 pub mod EverySize
+pub mod Digits
+pub mod SizeLaws

@@ -1,3 +1,4 @@
 pub mod Scales
 pub mod Sizes
 pub mod Existence
+pub mod Vectors
