@@ -8,3 +8,5 @@ pub mod RenamedBack
 pub mod Doubling
 pub mod Powers
 pub mod EverySize
+pub mod Digits
+pub mod SizeLaws

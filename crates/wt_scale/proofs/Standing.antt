@@ -76,7 +76,7 @@ stage_of axis (Restrict s) = record {
 
 -- ---- up a step, up several, over a renaming, round a loop
 
-larger_below : (l : RawLink) (side : ℕ) → side ≤ side_below l side
+pub larger_below : (l : RawLink) (side : ℕ) → side ≤ side_below l side
 larger_below (Marker s) side = omega arith
 larger_below (Restrict s) side = omega arith
 

@@ -2,3 +2,4 @@ pub mod Scales
 pub mod Sizes
 pub mod Existence
 pub mod Pick
+pub mod Vectors

@@ -1,5 +1,5 @@
 // What good marker steps do to patterns and their periods.
-ghost use Rattle.std.specs.Prelude.{◌≡◌, ◌⊎◌, ◌+◌, ◌^◌, ◌∷◌, ◌<◌, ◌≤◌, None, ℕ, ℤ, List, Bool};
+ghost use Rattle.std.specs.Prelude.{◌≡◌, ◌⊎◌, ◌+◌, ◌^◌, ◌∷◌, ◌<◌, ◌≤◌, None, Ok, ℕ, ℤ, List, Bool};
 ghost use Rattle.wt_tile.specs.Matching.{grid_axis};
 ghost use Rattle.wt_grid.specs.Grid.{Grid, IsGrid, along, across, lines, one};
 ghost use Rattle.wt_grid.specs.Parts.{core};
@@ -22,6 +22,7 @@ ghost use Rattle.wt_chain.specs.Sets.{AreLinked};
 ghost use Rattle.wt_chain.specs.Turns.{renamed_back, turned_times};
 ghost use Rattle.wt_chain.specs.Good.{GoodLoop};
 ghost use Rattle.wt_scale.specs.Sizes.{magnitude, size_of};
+ghost use Rattle.wt_scale.specs.Vectors.{digits, size_result};
 ghost use Rattle.wt_scale.specs.Scales.{IsCarried, Lowered, side_below};
 ghost use Rattle.wt_scale.specs.Existence.{ValidImage, SameSized, TwiceSized, IsPatternOf, HasPattern};
 ghost use Rattle.wt_scale.specs.Pick.{power_for, pick};
@@ -99,4 +100,18 @@ pub fn picks_are_valid()
 pub fn every_size_has_a_pattern()
     ensures { (c : RawChain) → chain_fault c ≡ None → (start e : ℕ) (list : List ℕ) → c.end ≡ Loop start list e → (first : RawLink) (rest : List RawLink) → c.steps ≡ first ∷ rest
         → (w h : ℕ) → 1 ≤ w → 1 ≤ h → HasPattern (fine_of first).tiles w h }
+{}
+
+/// A number is below 2 to the power of its number of binary digits, and below no lower power of 2.
+pub fn digits_are_least()
+    ensures above { (m : ℕ) → m < 2 ^ digits m }
+    ensures least { (m k : ℕ) → m < 2 ^ k → digits m ≤ k }
+{}
+
+/// Where a good chain has a size for a vector, no valid pattern over its first set that is at least as wide and
+/// as high as this size has the vector as a period.
+pub fn sizes_exclude_periods()
+    ensures { (c : RawChain) → chain_fault c ≡ None → (first : RawLink) (rest : List RawLink) → c.steps ≡ first ∷ rest
+        → (x y : ℤ) (size : ℕ) → size_result c x y ≡ Ok size
+        → (p : Grid) → IsPattern (fine_of first).tiles p → size ≤ p.width → size ≤ p.height → IsPeriod p x y → ⊥ }
 {}

@@ -1,0 +1,6 @@
+use Rattle.wt_chain.proofs.Goodness.{good}
+use Rattle.wt_scale.proofs.SizeLaws.{excluded}
+use Rattle.wt_scale.proofs.laws.sizes_exclude_periods.Goals as goal
+
+pub returns : goal.returns
+returns c = λ chain e. excluded chain (good chain e)
