@@ -1,5 +1,8 @@
-// Certificates read, with one line changed, and cut.
-use crate::read_cert;
+// Certificates read, written back, with one line changed, and cut.
+mod examples;
+
+use crate::tests::examples::{S2, S3, S4, S5, S6, S7};
+use crate::{read_cert, write_cert};
 use std::alloc::{AllocError, Global};
 use std::test::Fail;
 use wt_line::{TextFault, What};
@@ -68,6 +71,49 @@ fn reads_a_step(rt: HostRuntime) -> Result<(), Fail> {
 }
 
 #[test]
+fn writes_what_it_read(rt: HostRuntime) -> Result<(), Fail> {
+    let alloc = rt.alloc();
+    let first = with_line(alloc, 33, 0, "")?;
+    let texts: [&[u8]; 7] = [
+        &first,
+        S2.as_bytes(),
+        S3.as_bytes(),
+        S4.as_bytes(),
+        S5.as_bytes(),
+        S6.as_bytes(),
+        S7.as_bytes(),
+    ];
+    for (i, text) in texts.iter().enumerate() {
+        let chain = read_cert(alloc, *text).ok().ok_or("read")?;
+        let written = write_cert(alloc, &chain)?;
+        assert!(rt; written.as_slice() == *text, "{i}");
+    }
+    Ok(())
+}
+
+/// The certificate with a refutation whose tree has so many levels.
+fn with_tree(alloc: Global, levels: usize) -> Result<Vec<u8>, AllocError> {
+    let mut lines = String::new(alloc);
+    lines.push_str("refuted 1\n1 0 1")?;
+    for _ in 1..levels {
+        lines.push_str(" 4 1 0")?;
+    }
+    lines.push_str(" 7 0")?;
+    with_line(alloc, 33, 26, &lines)
+}
+
+#[test]
+fn reads_trees_of_90_levels(rt: HostRuntime) -> Result<(), Fail> {
+    let text = with_tree(rt.alloc(), 90)?;
+    assert!(rt; read_cert(rt.alloc(), &text).is_ok());
+    let text = with_tree(rt.alloc(), 91)?;
+    let what = What::Depth;
+    let want = TextFault::Limit { what, line: 27 };
+    assert!(rt; read_cert(rt.alloc(), &text).is_err_and(|fault| fault == want));
+    Ok(())
+}
+
+#[test]
 fn names_the_first_fault(rt: HostRuntime) -> Result<(), Fail> {
     let rows = [
         (1, "certificate 3", None),
@@ -81,6 +127,7 @@ fn names_the_first_fault(rt: HostRuntime) -> Result<(), Fail> {
         (3, "step 0 restrict radius 0", None),
         (4, "fine 257", Some(What::Tiles)),
         (4, "fine  3", None),
+        (4, "fine 1180591620717411303424", Some(What::Tiles)),
         (7, "x m y m\r", None),
         (7, "x m y", None),
         (13, "markers 2 2", None),
@@ -107,6 +154,33 @@ fn names_the_first_fault(rt: HostRuntime) -> Result<(), Fail> {
     ];
     for (number, line, what) in rows {
         let text = with_line(rt.alloc(), 33, number, line)?;
+        let want = match what {
+            None => TextFault::Syntax { line: number },
+            Some(what) => TextFault::Limit { what, line: number },
+        };
+        let read = read_cert(rt.alloc(), &text);
+        assert!(rt; read.is_err_and(|fault| fault == want), "{line}");
+    }
+    Ok(())
+}
+
+#[test]
+fn names_the_first_fault_of_a_loop(rt: HostRuntime) -> Result<(), Fail> {
+    let rows = [
+        (32, "loops 0 1", None),
+        (32, "loop 00 1", None),
+        (32, "loop 0 01", None),
+        (32, "loop 0 1 1", None),
+        (33, "loop 0 1\nrename 2 0 1", None),
+        (33, "loop 0 1\nrenaming 02 0 1", None),
+        (33, "loop 0 1\nrenaming 2 0 01", None),
+        (33, "loop 0 1\nrenaming 2 0", None),
+        (33, "loop 0 1\nrenaming 2 0 1 2", None),
+        (33, "loop 0 1\nrenaming 2 0 65536", Some(What::Number)),
+        (33, "loop 0 1\nrenaming 1180591620717411303424 0", None),
+    ];
+    for (number, line, what) in rows {
+        let text = with_line(rt.alloc(), 33, 32, line)?;
         let want = match what {
             None => TextFault::Syntax { line: number },
             Some(what) => TextFault::Limit { what, line: number },
