@@ -41,6 +41,77 @@ type Row = (
     &'static str,
 );
 
+/// The worked rows: certificates with a change each, patterns taken apart, and words that are no command.
+const ROWS: [Row; 17] = [
+    ("check", &[], 0, "accepted open\nsets 3 4\n"),
+    (
+        "check",
+        &[
+            ("coarse 4", "coarse 3"),
+            ("x p x p\n", ""),
+            ("images 4", "images 3"),
+            ("1 2\nopen", "open"),
+        ],
+        1,
+        "refused G5 step 0 pair 1 2\n",
+    ),
+    (
+        "check",
+        &[("x p y p", "x n y p")],
+        1,
+        "refused G6 step 0 axis 2 pair 2 0\n",
+    ),
+    (
+        "check",
+        &[(BEHIND_LINE_20, "")],
+        1,
+        "refused syntax line 21\n",
+    ),
+    (
+        "check",
+        &[("end\n", "end\nx")],
+        1,
+        "refused syntax line 34\n",
+    ),
+    ("check", &[("end\n", "end")], 1, "refused syntax line 33\n"),
+    ("check", &[(ONE_STEP, "")], 1, "refused syntax line 1\n"),
+    (
+        "check",
+        &[("fine 3", "fine 257")],
+        5,
+        "limit tiles line 4\n",
+    ),
+    (
+        "check",
+        &[("radius 0", "radius 5")],
+        5,
+        "limit radius line 3\n",
+    ),
+    (
+        "desub 0",
+        &[("end\n", "end\npattern 5 1\n0 2 1 2 1\n")],
+        0,
+        "coarse 2 1\ncut 0 1\n2 3\n",
+    ),
+    (
+        "desub 0",
+        &[("end\n", "end\npattern 3 1\n2 2 1\n")],
+        1,
+        "refused not valid axis 1 at 0 0\n",
+    ),
+    (
+        "desub 0",
+        &[("end\n", "end\npattern 2 1\n1 2\n")],
+        1,
+        "refused too small\n",
+    ),
+    ("", &[], 2, "usage\n"),
+    ("expand 2", &[], 2, "usage\n"),
+    ("bound 1 -0", &[], 2, "usage\n"),
+    ("sample 4", &[], 2, "usage\n"),
+    ("desub 00", &[], 2, "usage\n"),
+];
+
 /// Whether the program answers a row so.
 fn is_answered(alloc: Global, row: &Row) -> Result<bool, Fail> {
     let words = words_of(alloc, row.0)?;
@@ -52,75 +123,6 @@ fn is_answered(alloc: Global, row: &Row) -> Result<bool, Fail> {
 
 #[test]
 fn answers_the_worked_rows(rt: HostRuntime) -> Result<(), Fail> {
-    const ROWS: [Row; 17] = [
-        ("check", &[], 0, "accepted open\nsets 3 4\n"),
-        (
-            "check",
-            &[
-                ("coarse 4", "coarse 3"),
-                ("x p x p\n", ""),
-                ("images 4", "images 3"),
-                ("1 2\nopen", "open"),
-            ],
-            1,
-            "refused G5 step 0 pair 1 2\n",
-        ),
-        (
-            "check",
-            &[("x p y p", "x n y p")],
-            1,
-            "refused G6 step 0 axis 2 pair 2 0\n",
-        ),
-        (
-            "check",
-            &[(BEHIND_LINE_20, "")],
-            1,
-            "refused syntax line 21\n",
-        ),
-        (
-            "check",
-            &[("end\n", "end\nx")],
-            1,
-            "refused syntax line 34\n",
-        ),
-        ("check", &[("end\n", "end")], 1, "refused syntax line 33\n"),
-        ("check", &[(ONE_STEP, "")], 1, "refused syntax line 1\n"),
-        (
-            "check",
-            &[("fine 3", "fine 257")],
-            5,
-            "limit tiles line 4\n",
-        ),
-        (
-            "check",
-            &[("radius 0", "radius 5")],
-            5,
-            "limit radius line 3\n",
-        ),
-        (
-            "desub 0",
-            &[("end\n", "end\npattern 5 1\n0 2 1 2 1\n")],
-            0,
-            "coarse 2 1\ncut 0 1\n2 3\n",
-        ),
-        (
-            "desub 0",
-            &[("end\n", "end\npattern 3 1\n2 2 1\n")],
-            1,
-            "refused not valid axis 1 at 0 0\n",
-        ),
-        (
-            "desub 0",
-            &[("end\n", "end\npattern 2 1\n1 2\n")],
-            1,
-            "refused too small\n",
-        ),
-        ("", &[], 2, "usage\n"),
-        ("expand 2", &[], 2, "usage\n"),
-        ("bound 1 -0", &[], 2, "usage\n"),
-        ("sample 4", &[], 2, "usage\n"),
-        ("desub 00", &[], 2, "usage\n"),
-    ];
     for row in &ROWS {
         assert!(rt; is_answered(rt.alloc(), row)?, "at {}: {}", row.0, row.3);
     }
