@@ -150,3 +150,35 @@ fn numbers_pairs_of_colours(rt: HostRuntime) -> Result<(), Fail> {
     }
     Ok(())
 }
+
+/// The text of an edge of a fused tile: a colour's name, or two names in brackets.
+fn edge_text(alloc: Global, names: &[&str], edge: Edge) -> Result<String, Fail> {
+    let mut text = String::new(alloc);
+    match edge {
+        Edge::One(a) => text.push_str(names[usize::from(a)])?,
+        Edge::Two(a, b) => {
+            text.push('(')?;
+            text.push_str(names[usize::from(a)])?;
+            text.push(',')?;
+            text.push_str(names[usize::from(b)])?;
+            text.push(')')?;
+        }
+    }
+    Ok(text)
+}
+
+#[test]
+fn keeps_names_of_pairs_apart(rt: HostRuntime) -> Result<(), Fail> {
+    // The tiles k A k m and k BC k m as one, and the tiles k AB k m and k C k m.
+    let names = ["A", "m", "BC", "AB", "C"];
+    for (left, right, want) in [(0, 2, "(A,BC)"), (3, 4, "(AB,C)")] {
+        let fused = fuse(Axis::One, tile(0, left, 0, 1), tile(0, right, 0, 1));
+        assert_eq!(rt; fused.east, Edge::One(0));
+        assert_eq!(rt; fused.west, Edge::One(0));
+        let north = edge_text(rt.alloc(), &names, fused.north)?;
+        assert_eq!(rt; north.as_str(), want);
+        let south = edge_text(rt.alloc(), &names, fused.south)?;
+        assert_eq!(rt; south.as_str(), "(m,m)");
+    }
+    Ok(())
+}
