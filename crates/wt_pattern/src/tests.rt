@@ -1,5 +1,8 @@
 // What no clause says: faults, periods and parts that were worked out by hand, and each call once.
-use crate::{Fault, Pattern, core, part, period_fault, tiles_fault, valid, window_shape};
+use crate::{
+    Fault, Pattern, core, part, pattern_text, period_fault, read_pattern, read_set, tiles_fault,
+    valid, window_shape, write_set,
+};
 use std::alloc::{AllocError, Global};
 use std::test::Fail;
 use wt_seq::Seq;
@@ -167,5 +170,34 @@ fn cuts_parts(rt: HostRuntime) -> Result<(), Fail> {
 fn sizes_windows(rt: HostRuntime) -> Result<(), Fail> {
     assert_eq!(rt; window_shape(Axis::One, 4), (10, 9));
     assert_eq!(rt; window_shape(Axis::Two, 0), (1, 2));
+    Ok(())
+}
+
+#[test]
+fn reads_and_writes_a_set(rt: HostRuntime) -> Result<(), Fail> {
+    let text = b"k A k m\nk BC k m\nk AB k m\nk C k m\n";
+    let Ok(list) = read_set(rt.alloc(), text, 4) else {
+        return Err(Fail::new("a set of four tiles is not read"));
+    };
+    assert_eq!(rt; list.names2.as_slice()[2].bytes(), b"BC".as_slice());
+    let Ok(set) = SetRef::new(&list) else {
+        return Err(Fail::new("a set of four tiles is none"));
+    };
+    let written = write_set(rt.alloc(), set)?;
+    assert_eq!(rt; written.as_slice(), text.as_slice());
+    assert!(rt; read_set(rt.alloc(), text, 3).is_err());
+    Ok(())
+}
+
+#[test]
+fn reads_and_writes_a_pattern(rt: HostRuntime) -> Result<(), Fail> {
+    let text = b"5 0\n255 17\n13 9\n";
+    let Ok(p) = read_pattern(rt.alloc(), text, 2, 3) else {
+        return Err(Fail::new("a pattern of three rows is not read"));
+    };
+    assert_eq!(rt; p.row(0), [13, 9].as_slice());
+    let written = pattern_text(rt.alloc(), &p)?;
+    assert_eq!(rt; written.as_slice(), text.as_slice());
+    assert!(rt; read_pattern(rt.alloc(), text, 3, 2).is_err());
     Ok(())
 }
