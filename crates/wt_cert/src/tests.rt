@@ -201,3 +201,36 @@ fn misses_the_next_line(rt: HostRuntime) -> Result<(), Fail> {
     }
     Ok(())
 }
+
+/// The first lines of a text, with their newlines.
+fn first_lines(text: &[u8], count: usize) -> &[u8] {
+    let mut seen = 0usize;
+    for (i, byte) in text.iter().enumerate() {
+        if seen == count {
+            return &text[..i];
+        }
+        if *byte == b'\n' {
+            seen += 1;
+        }
+    }
+    text
+}
+
+#[test]
+fn misses_the_next_line_of_each(rt: HostRuntime) -> Result<(), Fail> {
+    for text in [S2, S3, S4, S5, S6, S7] {
+        let text = text.as_bytes();
+        let mut count = 0usize;
+        loop {
+            let front = first_lines(text, count);
+            if front.len() == text.len() {
+                break;
+            }
+            let want = TextFault::Syntax { line: count + 1 };
+            let read = read_cert(rt.alloc(), front);
+            assert!(rt; read.is_err_and(|fault| fault == want), "{count}");
+            count += 1;
+        }
+    }
+    Ok(())
+}
