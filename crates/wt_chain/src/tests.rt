@@ -111,21 +111,37 @@ fn names_what_fails_in_a_loop(rt: HostRuntime) -> Result<(), Fail> {
     Ok(())
 }
 
-#[test]
-fn puts_steps_together(rt: HostRuntime) -> Result<(), Fail> {
-    let alloc = rt.alloc();
+/// The open chain of two steps that keep the one tile of their set.
+fn two_steps(alloc: Global) -> Result<Chain, Fail> {
     let first = accept_link(keeping_step(alloc)?).ok().ok_or("first")?;
     let second = accept_link(keeping_step(alloc)?).ok().ok_or("second")?;
     let chain = Chain::start(alloc, first).ok().ok_or("start")?;
-    let chain = chain.push_step(second).ok().ok_or("push")?;
-    let chain = chain.finish().copy(alloc)?;
+    Ok(chain.push_step(second).ok().ok_or("push")?)
+}
+
+#[test]
+fn puts_steps_together(rt: HostRuntime) -> Result<(), Fail> {
+    let alloc = rt.alloc();
+    let chain = two_steps(alloc)?.finish().copy(alloc)?;
     assert_eq!(rt; chain.steps(), 2);
     assert_eq!(rt; chain.set(2).tiles().len(), 1);
-    let chain = chain.reopen().ok().ok_or("reopen")?;
-    let (_, _, refusal) = chain
-        .close(0, Vec::from_slice(alloc, &[0])?, 3)
-        .err()
-        .ok_or("close")?;
+    assert!(rt; chain.reopen().is_ok());
+    Ok(())
+}
+
+#[test]
+fn closes_no_loop_that_does_not_grow(rt: HostRuntime) -> Result<(), Fail> {
+    let alloc = rt.alloc();
+    let closed = two_steps(alloc)?.close(0, Vec::from_slice(alloc, &[0])?, 3);
+    let (_, _, refusal) = closed.err().ok_or("close")?;
     assert_eq!(rt; refusal, Refusal::Expansion { tile: 0 });
+    Ok(())
+}
+
+#[test]
+fn finds_no_expansion_where_none_serves(rt: HostRuntime) -> Result<(), Fail> {
+    let link = accept_link(renamed_step(rt.alloc())?).ok().ok_or("step")?;
+    let chain = Chain::start(rt.alloc(), link).ok().ok_or("start")?;
+    assert_eq!(rt; chain.expansion(0, &[0, 2, 1]), None);
     Ok(())
 }
