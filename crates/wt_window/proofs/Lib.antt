@@ -2,3 +2,4 @@ pub mod Members
 pub mod Steps
 pub mod Listed
 pub mod Sums
+pub mod Windows

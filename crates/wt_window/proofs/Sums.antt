@@ -29,16 +29,16 @@ levels ts w (suc n) i = next_level ts w n (fillings ts w i) ∙ (let h = levels 
 
 from_end : (f : ℕ → ℕ) (i n : ℕ) → sum_from f i (suc n) ≡ sum_from f i n + f (suc i + n)
 unfolding sum_from
-from_end f i zero = ?
-from_end f i (suc n) = ?
+from_end f i zero = let e : suc i + 0 ≡ suc i = omega arith in rw e refl
+from_end f i (suc n) = let h = from_end f (suc i) n in let e : suc i + suc n ≡ suc (suc i) + n = omega arith in rw e (omega (arith, h))
 
 upwards : (f : ℕ → ℕ) (n : ℕ) → sum_from f 0 n ≡ sum_to f n
 unfolding sum_from
 upwards f zero = refl
-upwards f (suc n) = ?
+upwards f (suc n) = from_end f 0 n ∙ (let e : suc 0 + n ≡ suc n = omega arith in rw (e, upwards f n) refl)
 
 pub summed : (ts : List Tile) (w : Window) → trials ts w ≡ sum_to (λ i. length (fillings ts w i)) (cells w)
 summed ts w =
     let h = levels ts w (cells w) 0 in
     let k = upwards (λ i. length (fillings ts w i)) (cells w) in
-    ?
+    omega (arith, h, k)
