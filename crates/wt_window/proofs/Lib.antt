@@ -3,3 +3,4 @@ pub mod Steps
 pub mod Listed
 pub mod Sums
 pub mod Windows
+pub mod Examples

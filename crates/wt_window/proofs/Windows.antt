@@ -1,5 +1,5 @@
 -- Fillings of all cells of a window are the valid windows of its pair.
-use Rattle.std.proofs.Common.{arith, ◌≡◌, ◌↔◌, ℕ, zero, suc, ◌+◌, ◌*◌, ◌/◌, ◌%◌, ◌<◌, ◌≤◌, Bool, true, List, [], ◌∷◌, length, get_or, refl, sym, ap, ◌∙◌, inl, inr, subst}
+use Rattle.std.proofs.Common.{arith, ◌≡◌, ◌↔◌, ℕ, suc, ◌+◌, ◌*◌, ◌/◌, ◌%◌, ◌<◌, ◌≤◌, List, [], ◌∷◌, length, get_or, refl, sym, ◌∙◌, inl, inr, subst}
 use Rattle.std.proofs.lemmas.Bool.{cases_lt}
 use Rattle.std.proofs.lemmas.Nat.{mul-add-lt, div-add-mod'}
 use Rattle.std.proofs.Math.Nat.{mod-lt, mul-le-mul_left}
@@ -7,7 +7,7 @@ use Rattle.wt_tile.specs.declared.tile.Tile.{Tile}
 use Rattle.wt_tile.specs.declared.tile.Axis.{Axis}
 use Rattle.wt_tile.specs.declared.tile.Axis.TheVariants.{One, Two}
 use Rattle.wt_tile.specs.Matching.{matching, grid_axis}
-use Rattle.wt_grid.specs.Grid.{Grid, cell, IsGrid, Axis as GridAxis, one as first_axis, two as second_axis}
+use Rattle.wt_grid.specs.Grid.{Grid, IsGrid, one as first_axis, two as second_axis}
 use Rattle.wt_grid.specs.Parts.{AllBelow, IsValid, IsWindow}
 use Rattle.wt_pattern.specs.Windows.{IsEmptyWindow}
 use Rattle.wt_window.specs.Trials.{Window, IsFilling, window, cells, fillings}
