@@ -1,0 +1,5 @@
+use Rattle.std.proofs.Common.{arith, rules}
+use Rattle.wt_step.proofs.walk.first_places.Goals as goal
+
+pub returns : goal.returns
+returns c = ?
