@@ -1,5 +1,5 @@
 -- What a walk along a list in strict order sees of it at its place.
-use Rattle.std.proofs.Common.{arith, ◌≡◌, ◌<◌, ◌≤◌, ◌+◌, ℕ, suc, List, [], ◌∷◌, length, get_or, Bool, true, false, ◌&&◌, ◌||◌, nat_eq, nat_lt, nat_le, if◌then◌else◌, Option, Some, None, is_some, refl, sym, ◌∙◌, ap, inl, inr}
+use Rattle.std.proofs.Common.{arith, ◌≡◌, ◌<◌, ◌≤◌, ◌+◌, ℕ, suc, List, [], ◌∷◌, length, get_or, Bool, true, false, ◌&&◌, ◌||◌, nat_eq, nat_lt, nat_le, if◌then◌else◌, Some, None, is_some, refl, sym, ◌∙◌, ap, inl, inr}
 use Rattle.std.proofs.lemmas.Bool.Decides.{nat_tests}
 use Rattle.wt_tile.specs.declared.tile.Axis.{Axis}
 use Rattle.wt_grid.specs.Order.{in_order, leads, has, find, AllAbove, IsSplit}
@@ -57,6 +57,12 @@ module _ {A : Type 0} (low hit : A → Bool) where
     | inl l ↦ let r = hit_within xs l.2 (rw l.1 at e) in rw l.0 (omega arith)
     | inr r ↦ rw r.0 (omega arith)
   ]
+
+  pub found_at : (xs : List A) (d : A) → IsSplit low hit xs → has hit xs ≡ true → find hit xs ≡ Some (get_or xs (passed low xs) d)
+  found_at xs d s e =
+      let lt = hit_within xs s e in
+      let h : hit (get_or xs (passed low xs) d) ≡ true = sym (has_at xs d s lt) ∙ e in
+      hit_at xs d s lt ∙ rw h refl
 
   above_has : (xs : List A) → AllAbove low hit xs → has hit xs ≡ false
   above_has [] h = refl
@@ -171,6 +177,51 @@ module _ (s : RawStep) (h : IsShaped s) (axis : Axis) (a b : ℕ) where
   refuted_next radius =
       let e = passed_next (entry_before radius axis a b) (is_entry radius axis a b) (entry_before radius axis a (b + 1)) (entry_next radius axis a b) s.refuted (refuted_split radius) in
       rw (has_found (is_entry radius axis a b) s.refuted) at e
+
+  -- what code sees at the place of an allowed pair
+
+  pub allowed_here : (pairs : List (ℕ × ℕ)) (place : ℕ) (d : ℕ × ℕ) → pairs ≡ allowed s axis → place ≡ allowed_place s axis a b → place < length pairs
+      → allows s axis a b ≡ is_pair a b (get_or pairs place d)
+  allowed_here pairs place d e p lt = rw (e, p) (has_at (pair_before a b) (is_pair a b) (allowed s axis) d allowed_split (rw (e, p) at lt))
+
+  pub allowed_past : (pairs : List (ℕ × ℕ)) (place : ℕ) → pairs ≡ allowed s axis → place ≡ allowed_place s axis a b → length pairs ≤ place → allows s axis a b ≡ false
+  allowed_past pairs place e p le = has_none (pair_before a b) (is_pair a b) (allowed s axis) allowed_split (rw (e, p) at le)
+
+  pub allowed_hit : (place : ℕ) → place ≡ allowed_place s axis a b → allows s axis a b ≡ true → place + 1 ≡ allowed_place s axis a (b + 1)
+  allowed_hit place p e = let n = rw e at allowed_next in omega (arith, n, p)
+
+  pub allowed_miss : (place : ℕ) → place ≡ allowed_place s axis a b → allows s axis a b ≡ false → place ≡ allowed_place s axis a (b + 1)
+  allowed_miss place p e = let n = rw e at allowed_next in p ∙ sym n
+
+  -- and at that of a refutation
+
+  module _ (radius : ℕ) where
+    pub refuted_here : (entries : List Refuted) (place : ℕ) (d : Refuted) → entries ≡ s.refuted → place ≡ refuted_place s axis a b radius → place < length entries
+        → is_some (entry_at s axis a b radius) ≡ is_entry radius axis a b (get_or entries place d)
+    refuted_here entries place d e p lt =
+        rw (e, p) (sym (has_found (is_entry radius axis a b) s.refuted)
+        ∙ has_at (entry_before radius axis a b) (is_entry radius axis a b) s.refuted d (refuted_split radius) (rw (e, p) at lt))
+
+    pub refuted_past : (entries : List Refuted) (place : ℕ) → entries ≡ s.refuted → place ≡ refuted_place s axis a b radius → length entries ≤ place
+        → is_some (entry_at s axis a b radius) ≡ false
+    refuted_past entries place e p le = ap is_some (miss_at (entry_before radius axis a b) (is_entry radius axis a b) s.refuted (refuted_split radius) (rw (e, p) at le))
+
+    is_refuted : is_some (entry_at s axis a b radius) ≡ true → has (is_entry radius axis a b) s.refuted ≡ true
+    is_refuted e = has_found (is_entry radius axis a b) s.refuted ∙ e
+
+    pub refuted_within : (entries : List Refuted) (place : ℕ) → entries ≡ s.refuted → place ≡ refuted_place s axis a b radius → is_some (entry_at s axis a b radius) ≡ true
+        → place < length entries
+    refuted_within entries place e p f = rw (e, p) (hit_within (entry_before radius axis a b) (is_entry radius axis a b) s.refuted (refuted_split radius) (is_refuted f))
+
+    pub refuted_found : (entries : List Refuted) (place : ℕ) (d : Refuted) → entries ≡ s.refuted → place ≡ refuted_place s axis a b radius → is_some (entry_at s axis a b radius) ≡ true
+        → entry_at s axis a b radius ≡ Some (get_or entries place d)
+    refuted_found entries place d e p f = rw (e, p) (found_at (entry_before radius axis a b) (is_entry radius axis a b) s.refuted d (refuted_split radius) (is_refuted f))
+
+    pub refuted_hit : (place : ℕ) → place ≡ refuted_place s axis a b radius → is_some (entry_at s axis a b radius) ≡ true → place + 1 ≡ refuted_place s axis a (b + 1) radius
+    refuted_hit place p e = let n = rw e at (refuted_next radius) in omega (arith, n, p)
+
+    pub refuted_miss : (place : ℕ) → place ≡ refuted_place s axis a b radius → is_some (entry_at s axis a b radius) ≡ false → place ≡ refuted_place s axis a (b + 1) radius
+    refuted_miss place p e = let n = rw e at (refuted_next radius) in p ∙ sym n
 
 pub next_row : (s : RawStep) (axis : Axis) (a : ℕ) (places : Places) → IsShaped s → IsPlaced s axis a (length s.fine.tiles) places → IsPlaced s axis (a + 1) 0 places
 next_row s axis a places h p =

@@ -1,6 +1,7 @@
 // The tests of the pairs of tiles. They go by the first tile, then by the second, and the sorted lists of a step are walked beside
 // them: a list is looked at where it stands, and never searched.
-ghost use Rattle.std.specs.Prelude.{◌≡◌, ◌+◌, ◌<◌, ◌≤◌, None, Some, MatchResult, length, true, is_some, option_map};
+ghost use Rattle.std.specs.Prelude.{◌≡◌, ◌+◌, ◌-◌, ◌^◌, ◌<◌, ◌≤◌, None, Some, MatchResult, length, true, is_some, option_map};
+ghost use Rattle.std.specs.Bool.{OnTrue};
 ghost use Rattle.wt_refute.specs.Entries.{is_entry as entry_is};
 ghost use Rattle.wt_step.specs.Words.{allowed as allowed_pairs, allows as allows_pair, is_barred as barred, entry_at as entry_of, times as times_named};
 ghost use Rattle.wt_step.specs.Faults.{IsShaped, is_named_well as named_well, tree_fault_at as tree_at, trees_fault as first_tree, pair_fault as fault_of_pair, row_fault as first_of_row, pairs_fault as first_pair};
@@ -52,7 +53,8 @@ fn first_places(raw: &RawStep, axis: Axis) -> Places
 fn is_allowed_at(raw: &RawStep, axis: Axis, a: u16, b: u16, place: usize) -> bool
     requires shaped { IsShaped raw.now }
     requires placed { place ≡ allowed_place raw.now axis a b }
-    ensures { result ≡ allows_pair raw.now axis a b }
+    ensures value { result ≡ allows_pair raw.now axis a b }
+    ensures below { OnTrue result (place < 2 ^ 64 - 1) }
 {
     let pairs = allowed(raw, axis);
     place < pairs.len() && is_pair(a, b, pairs[place])
@@ -69,7 +71,8 @@ fn is_entry(radius: u8, axis: Axis, a: u16, b: u16, entry: &Refuted) -> bool
 fn is_refuted_at(raw: &RawStep, axis: Axis, a: u16, b: u16, radius: u8, place: usize) -> bool
     requires shaped { IsShaped raw.now }
     requires placed { place ≡ refuted_place raw.now axis a b radius }
-    ensures { result ≡ is_some (entry_of raw.now axis a b radius) }
+    ensures value { result ≡ is_some (entry_of raw.now axis a b radius) }
+    ensures below { OnTrue result (place < 2 ^ 64 - 1) }
 {
     let entries = raw.refuted.as_slice();
     place < entries.len() && is_entry(radius, axis, a, b, &entries[place])
