@@ -1,9 +1,10 @@
 -- What a walk along a list in strict order sees of it at its place.
-use Rattle.std.proofs.Common.{arith, ◌≡◌, ◌<◌, ◌≤◌, ◌+◌, ℕ, suc, List, [], ◌∷◌, length, get_or, Bool, true, false, ◌&&◌, ◌||◌, nat_eq, nat_lt, nat_le, if◌then◌else◌, Some, None, is_some, refl, sym, ◌∙◌, ap, inl, inr}
+use Rattle.std.proofs.Common.{arith, ◌≡◌, ◌<◌, ◌≤◌, ◌+◌, ℕ, zero, suc, List, [], ◌∷◌, length, get_or, Bool, true, false, ◌&&◌, ◌||◌, nat_eq, nat_lt, nat_le, if◌then◌else◌, Some, None, is_some, refl, sym, ◌∙◌, ap, inl, inr}
 use Rattle.std.proofs.lemmas.Bool.Decides.{nat_tests}
 use Rattle.wt_tile.specs.declared.tile.Axis.{Axis}
 use Rattle.wt_grid.specs.Order.{in_order, leads, has, find, AllAbove, IsSplit}
 use Rattle.wt_grid.specs.Pairs.{pair_before, is_pair}
+use Rattle.wt_grid.proofs.Keys.{first_by, by_cases, by_less}
 use Rattle.wt_grid.proofs.Order.{both, has_found, above_none}
 use Rattle.wt_refute.specs.declared.tree.Refuted.{Refuted}
 use Rattle.wt_refute.specs.Entries.{entry_before, is_entry, entries_follow, axis_number}
@@ -92,6 +93,57 @@ module _ {A : Type 0} (low hit : A → Bool) where
         at_first true h l m n = let e : next x ≡ true = after x ∙ rw (l, h) refl in rw (e, h, l, n) refl
         at_first false h l m n = let e : next x ≡ false = after x ∙ rw (l, h) refl in rw (e, h, l, m) refl
 
+-- Before the place, code climbs from element to element.
+
+module _ {A : Type 0} (low : A → Bool) where
+  climbs : (xs : List A) (k : ℕ) (d : A) → k ≤ passed low xs → k < length xs → low (get_or xs k d) ≡ true → k + 1 ≤ passed low xs
+  climbs [] k d le lt e = absurd (omega arith)
+  climbs (x ∷ xs) zero d le lt e = rw e (omega arith)
+  climbs (x ∷ xs) (suc k) d le lt e = at_first (low x) refl (λ under. climbs xs k d under (omega arith) e)
+    where
+      at_first : (b : Bool) → low x ≡ b → (k ≤ passed low xs → k + 1 ≤ passed low xs) → suc k + 1 ≤ passed low (x ∷ xs)
+      at_first true h r = let under : k ≤ passed low xs = (let g = rw h at le in omega arith) in let up = r under in rw h (omega arith)
+      at_first false h r = absurd (let g = rw h at le in omega arith)
+
+  stops : (xs : List A) (k : ℕ) (d : A) → k ≤ passed low xs → k < length xs → low (get_or xs k d) ≡ false → k ≡ passed low xs
+  stops [] k d le lt e = absurd (omega arith)
+  stops (x ∷ xs) zero d le lt e = rw e refl
+  stops (x ∷ xs) (suc k) d le lt e = at_first (low x) refl (λ under. stops xs k d under (omega arith) e)
+    where
+      at_first : (b : Bool) → low x ≡ b → (k ≤ passed low xs → k ≡ passed low xs) → suc k ≡ passed low (x ∷ xs)
+      at_first true h r = rw h (ap suc (r (let g = rw h at le in omega arith)))
+      at_first false h r = absurd (let g = rw h at le in omega arith)
+
+  passed_most : (xs : List A) → passed low xs ≤ length xs
+  passed_most [] = omega arith
+  passed_most (x ∷ xs) = at_first (low x) refl (passed_most xs)
+    where
+      at_first : (b : Bool) → low x ≡ b → passed low xs ≤ length xs → passed low (x ∷ xs) ≤ length (x ∷ xs)
+      at_first true h le = rw h (omega arith)
+      at_first false h le = rw h (omega arith)
+
+  pub ends : (xs : List A) (k : ℕ) → k ≤ passed low xs → length xs ≤ k → k ≡ passed low xs
+  ends xs k le end = omega (arith, passed_most xs)
+
+  module _ (xs ys : List A) (k : ℕ) (d : A) (same : ys ≡ xs) (le : k ≤ passed low xs) where
+    seen : d ≡ get_or ys k d → (b : Bool) → low d ≡ b → low (get_or xs k d) ≡ b
+    seen i b e = ap low (sym (rw same at i)) ∙ e
+
+    pub climbs_at : k < length ys → d ≡ get_or ys k d → low d ≡ true → k + 1 ≤ passed low xs
+    climbs_at lt i e = climbs xs k d le (rw same at lt) (seen i true e)
+
+    pub stops_at : k < length ys → d ≡ get_or ys k d → low d ≡ false → k ≡ passed low xs
+    stops_at lt i e = stops xs k d le (rw same at lt) (seen i false e)
+
+  -- a key behind has its place no earlier
+  pub rises : (other : A → Bool) → ((x : A) → low x ≡ true → other x ≡ true) → (xs : List A) → passed low xs ≤ passed other xs
+  rises other up [] = omega arith
+  rises other up (x ∷ xs) = at_first (low x) refl (rises other up xs)
+    where
+      at_first : (b : Bool) → low x ≡ b → passed low xs ≤ passed other xs → passed low (x ∷ xs) ≤ passed other (x ∷ xs)
+      at_first true h le = rw (h, up x h) (omega arith)
+      at_first false h le = rw h (omega arith)
+
 -- keys that the elements of a list can't tell apart have one place
 pub passed_same : {A : Type 0} (low other fits : A → Bool) (before : A → A → Bool) → ((x : A) → fits x ≡ true → low x ≡ other x)
     → (xs : List A) → in_order fits before xs ≡ true → passed low xs ≡ passed other xs
@@ -147,6 +199,19 @@ pub entry_row : (most n radius : ℕ) (axis : Axis) (a : ℕ) (r : Refuted) → 
 entry_row most n radius axis a r e =
     ap (λ t. nat_lt r.radius radius || (nat_eq r.radius radius && (nat_lt (axis_number r.axis) (axis_number axis) || (nat_eq (axis_number r.axis) (axis_number axis) && t))))
     (row_ends r.a r.b n a (both (nat_le r.radius most && nat_lt r.a n) (nat_lt r.b n) e).1)
+
+abbrev under_radius : Axis → Refuted → Bool
+under_radius axis r = first_by (axis_number r.axis) (axis_number axis) (pair_before 0 0 (r.a, r.b))
+
+-- the refutations of a radius come before those of the next
+pub radius_rises : (radius : ℕ) (axis : Axis) (rs : List Refuted) → passed (entry_before radius axis 0 0) rs ≤ passed (entry_before (radius + 1) axis 0 0) rs
+radius_rises radius axis rs = rises (entry_before radius axis 0 0) (entry_before (radius + 1) axis 0 0) up rs
+  where
+    up : (r : Refuted) → entry_before radius axis 0 0 r ≡ true → entry_before (radius + 1) axis 0 0 r ≡ true
+    up r e = elim (by_cases r.radius radius (under_radius axis r) e) [
+      | inl lt ↦ by_less r.radius (radius + 1) (under_radius axis r) (omega arith)
+      | inr s ↦ by_less r.radius (radius + 1) (under_radius axis r) (let same : r.radius ≡ radius = s.0 in omega arith)
+    ]
 
 -- no pair comes before that of 0 and 0
 pub none_passed : (ps : List (ℕ × ℕ)) → passed (pair_before 0 0) ps ≡ 0

@@ -1,5 +1,5 @@
-// The tests of the pairs of tiles. They go by the first tile, then by the second, and the sorted lists of a step are walked beside
-// them: a list is looked at where it stands, and never searched.
+// The tests of the pairs of tiles. They go by the first tile, then by the second, and the sorted lists of a
+// step are walked beside them: a list is read where it stands, and never searched.
 ghost use Rattle.std.specs.Prelude.{◌≡◌, ◌+◌, ◌-◌, ◌^◌, ◌<◌, ◌≤◌, None, Some, MatchResult, length, true, is_some, option_map};
 ghost use Rattle.std.specs.Bool.{OnTrue};
 ghost use Rattle.wt_refute.specs.Entries.{is_entry as entry_is};
@@ -13,7 +13,7 @@ use crate::{RawStep, StepFault};
 use wt_refute::{Refuted, check_tree, entry_before};
 use wt_tile::{Axis, SetRef, is_match, same_axis};
 
-/// Where the lists of a step stand at a pair of tiles.
+/// Where the lists of a step stand at a pair of tiles: there they have the pair, or nowhere.
 #[derive(Clone, Copy)]
 struct Places {
     /// How many allowed pairs of the axis come before the pair.
@@ -22,14 +22,15 @@ struct Places {
     refuted: [usize; 5],
 }
 
-fn first_refuted(raw: &RawStep, axis: Axis, radius: u8) -> usize
+/// The place of the first refutation that isn't before those of a radius and an axis, sought from a place on
+/// that isn't behind it.
+fn first_refuted(raw: &RawStep, axis: Axis, radius: u8, from: usize) -> usize
+    requires { from ≤ refuted_place raw.now axis 0 0 radius }
     ensures { result ≡ refuted_place raw.now axis 0 0 radius }
 {
-    let mut place = 0usize;
-    for entry in raw.refuted.as_slice() {
-        if !entry_before(radius, axis, 0, 0, entry) {
-            return place;
-        }
+    let entries = raw.refuted.as_slice();
+    let mut place = from;
+    while place < entries.len() && entry_before(radius, axis, 0, 0, &entries[place]) {
         place += 1;
     }
     place
@@ -41,8 +42,10 @@ fn first_places(raw: &RawStep, axis: Axis) -> Places
     ensures { IsPlaced raw.now axis 0 0 result }
 {
     let mut refuted = [0usize; 5];
+    let mut place = 0usize;
     for radius in 0..raw.radius + 1 {
-        refuted[usize::from(radius)] = first_refuted(raw, axis, radius);
+        place = first_refuted(raw, axis, radius, place);
+        refuted[usize::from(radius)] = place;
     }
     Places {
         allowed: 0,
@@ -50,6 +53,7 @@ fn first_places(raw: &RawStep, axis: Axis) -> Places
     }
 }
 
+/// Whether the pair is allowed, read at its place.
 fn is_allowed_at(raw: &RawStep, axis: Axis, a: u16, b: u16, place: usize) -> bool
     requires shaped { IsShaped raw.now }
     requires placed { place ≡ allowed_place raw.now axis a b }
@@ -67,7 +71,7 @@ fn is_entry(radius: u8, axis: Axis, a: u16, b: u16, entry: &Refuted) -> bool
     entry.radius == radius && (same_axis(entry.axis, axis) && is_pair(a, b, (entry.a, entry.b)))
 }
 
-/// Whether the list has the entry, read at its place.
+/// Whether the pair is refuted at a radius, read at its place.
 fn is_refuted_at(raw: &RawStep, axis: Axis, a: u16, b: u16, radius: u8, place: usize) -> bool
     requires shaped { IsShaped raw.now }
     requires placed { place ≡ refuted_place raw.now axis a b radius }
@@ -91,6 +95,7 @@ fn entry_at(raw: &RawStep, axis: Axis, a: u16, b: u16, radius: u8, place: usize)
     }
 }
 
+/// The place in the allowed pairs at the next pair of the row.
 fn allowed_after(raw: &RawStep, axis: Axis, a: u16, b: u16, place: usize) -> usize
     requires shaped { IsShaped raw.now }
     requires placed { place ≡ allowed_place raw.now axis a b }
@@ -103,6 +108,7 @@ fn allowed_after(raw: &RawStep, axis: Axis, a: u16, b: u16, place: usize) -> usi
     }
 }
 
+/// The place in the refutations of a radius at the next pair of the row.
 fn refuted_after(raw: &RawStep, axis: Axis, a: u16, b: u16, radius: u8, place: usize) -> usize
     requires shaped { IsShaped raw.now }
     requires placed { place ≡ refuted_place raw.now axis a b radius }
@@ -132,7 +138,7 @@ fn next_places(raw: &RawStep, axis: Axis, a: u16, b: u16, places: &Places) -> Pl
     }
 }
 
-/// Whether two tiles match and aren't allowed.
+/// Whether the tiles of the pair match and aren't allowed.
 fn is_barred_here(raw: &RawStep, axis: Axis, a: u16, b: u16, places: &Places) -> bool
     requires shaped { IsShaped raw.now }
     requires placed { IsPlaced raw.now axis a b places.now }

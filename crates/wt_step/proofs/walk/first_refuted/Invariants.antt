@@ -1,10 +1,9 @@
-use Rattle.std.proofs.Common.{◌≡◌, ◌+◌, drop}
-use Rattle.wt_refute.specs.Entries.{entry_before}
-use Rattle.wt_step.specs.Walk.{passed, refuted_place}
+use Rattle.std.proofs.Common.{◌≤◌, ◌-◌, length}
+use Rattle.wt_step.specs.Walk.{refuted_place}
 use Rattle.wt_step.proofs.walk.first_refuted.Given as goal
 
-abbrev pub invariant-loop-entry : goal.invariant-loop-entry
-invariant-loop-entry l = record {
-  counted : l.place + passed (entry_before l.radius l.axis 0 0) (drop l.entry-index l.raw.refuted) ≡ refuted_place l.raw l.axis 0 0 l.radius;
-  place : l.place ≡ l.entry-index;
-}
+abbrev pub invariant-loop-place : goal.invariant-loop-place
+invariant-loop-place l = l.place ≤ refuted_place l.raw l.axis 0 0 l.radius
+
+abbrev pub decreases-loop-place : goal.decreases-loop-place
+decreases-loop-place l = length l.raw.refuted - l.place
