@@ -3,18 +3,17 @@ use Rattle.std.proofs.Common.{arith, ◌≡◌, ◌<◌, ◌≤◌, ◌+◌, ℕ
 use Rattle.std.proofs.lemmas.Bool.Decides.{nat_tests}
 use Rattle.wt_tile.specs.declared.tile.Axis.{Axis}
 use Rattle.wt_grid.specs.Order.{in_order, leads, has, find, AllAbove, IsSplit}
-use Rattle.wt_grid.specs.Pairs.{pair_before, is_pair}
-use Rattle.wt_grid.proofs.Keys.{first_by, by_cases, by_less}
+use Rattle.wt_grid.specs.Pairs.{pair_before, is_pair, pairs_follow, pair_fits}
+use Rattle.wt_grid.proofs.Keys.{first_by, by_cases, by_less, pairs_split}
 use Rattle.wt_grid.proofs.Order.{both, has_found, above_none}
 use Rattle.wt_refute.specs.declared.tree.Refuted.{Refuted}
 use Rattle.wt_refute.specs.Entries.{entry_before, is_entry, entries_follow, axis_number}
 use Rattle.wt_refute.proofs.Entries.{entries_split}
 use Rattle.wt_step.specs.declared.raw.RawStep.{RawStep}
 use Rattle.wt_step.specs.declared.walk.Places.{Places}
-use Rattle.wt_step.specs.Words.{pairs_follow, pair_fits, entry_fits, allowed, allows, entry_at}
+use Rattle.wt_step.specs.Words.{entry_fits, allowed, allows, entry_at}
 use Rattle.wt_step.specs.Faults.{IsShaped}
 use Rattle.wt_step.specs.Walk.{passed, allowed_place, refuted_place, IsPlaced}
-use Rattle.wt_step.proofs.Keys.{pairs_split}
 use Rattle.wt_step.proofs.Shaped.{refuted_ascend}
 
 -- Lists that are split at a key.
