@@ -1,5 +1,6 @@
 pub mod Words
 pub mod Faults
+pub mod Walk
 pub mod Good
 pub mod Restrict
 pub mod Links
@@ -7,4 +8,3 @@ pub mod Blocks
 pub mod Coarse
 pub mod Views
 pub mod Meaning
-pub mod Walk
