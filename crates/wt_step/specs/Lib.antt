@@ -1,5 +1,6 @@
 pub mod Words
 pub mod Faults
+pub mod Walk
 pub mod Good
 pub mod Restrict
 pub mod Links

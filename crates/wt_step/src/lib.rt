@@ -21,6 +21,7 @@ mod rules;
 mod search;
 mod shape;
 mod step;
+mod walk;
 
 pub use borrowed::{LinkRef, RestrictRef};
 pub use coarse::{Coarse, DesubFault};

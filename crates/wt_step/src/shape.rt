@@ -1,9 +1,9 @@
 // Lists in order and in range.
-ghost use Rattle.std.specs.Prelude.{◌≡◌, length};
+ghost use Rattle.std.specs.Prelude.{◌≡◌, ◌≤◌, length};
 ghost use Rattle.wt_grid.specs.Order.{in_order, leads, all_of};
 ghost use Rattle.wt_step.specs.Words.{entry_fits as fits_entry, image_fits as fits_image, allowed as allowed_pairs};
 ghost use Rattle.wt_refute.specs.Entries.{entries_follow};
-ghost use Rattle.wt_step.specs.Faults.{shape_fault as first_fault, markers_fit as markers_right, allowed_fit as allowed_right, refuted_fit as refuted_right, images_fit as images_right};
+ghost use Rattle.wt_step.specs.Faults.{shape_fault as first_fault, markers_fit as markers_right, allowed_fit as allowed_right, refuted_fit as refuted_right, images_fit as images_right, IsShaped};
 
 use crate::order::{numbers_ascend, pairs_ascend};
 use crate::{RawStep, StepFault};
@@ -67,6 +67,15 @@ pub fn allowed(raw: &RawStep, axis: Axis) -> &[(u16, u16)]
         Axis::One => raw.allowed1.as_slice(),
         Axis::Two => raw.allowed2.as_slice(),
     }
+}
+
+/// How many tiles the fine set has.
+pub fn count_tiles(raw: &RawStep) -> u16
+    requires { IsShaped raw.now }
+    ensures value { result ≡ length raw.now.fine.tiles }
+    ensures small { result ≤ 256 }
+{
+    raw.fine.tiles.as_slice().len() as u16
 }
 
 fn markers_fit(raw: &RawStep) -> bool

@@ -2,26 +2,17 @@
 ghost use Rattle.std.specs.Prelude.{◌≡◌, ◌<◌, ◌≤◌, None, Some, length};
 ghost use Rattle.wt_grid.specs.First.{first_from};
 ghost use Rattle.wt_grid.specs.Order.{first_in};
-ghost use Rattle.wt_step.specs.Words.{entry_at as entry_of, image_at as image_of};
-ghost use Rattle.wt_step.specs.Faults.{IsShaped, step_fault as first_fault, rules_fault as first_rule, shape_fault as first_shape, tree_fault_at as tree_at, trees_fault as first_tree, pair_fault as fault_of_pair, row_fault as first_of_row, pairs_fault as first_pair, marker_fault_at as marker_at, marker_fault as first_marker, image_fault_at as image_fault_of, image_fault as first_image, missing_tile_at as missing_tile_of, missing_tile as first_missing_tile, missing_pair_at as missing_pair_of, missing_pair as first_missing_pair, join_fault_at as join_at, join_row as first_of_join_row, join_fault as first_join};
+ghost use Rattle.wt_step.specs.Words.{image_at as image_of};
+ghost use Rattle.wt_step.specs.Faults.{IsShaped, step_fault as first_fault, rules_fault as first_rule, shape_fault as first_shape, marker_fault_at as marker_at, marker_fault as first_marker, image_fault_at as image_fault_of, image_fault as first_image, missing_tile_at as missing_tile_of, missing_tile as first_missing_tile, missing_pair_at as missing_pair_of, missing_pair as first_missing_pair, join_fault_at as join_at, join_row as first_of_join_row, join_fault as first_join};
 
 use crate::rules::{
-    agree, entry_at, has_image, image_at, images_match, is_barred, is_block, is_demanded,
-    is_good_image, is_marked_well, is_named_well,
+    agree, has_image, image_at, images_match, is_block, is_demanded, is_good_image, is_marked_well,
 };
-use crate::shape::{allowed, shape_fault};
+use crate::shape::{allowed, count_tiles, shape_fault};
+use crate::walk::pairs_fault;
 use crate::{RawStep, StepFault};
 use wt_morphism::Image;
-use wt_refute::check_tree;
-use wt_tile::{Axis, SetRef, is_match};
-
-fn count_tiles(raw: &RawStep) -> u16
-    requires { IsShaped raw.now }
-    ensures value { result ≡ length raw.now.fine.tiles }
-    ensures small { result ≤ 256 }
-{
-    raw.fine.tiles.as_slice().len() as u16
-}
+use wt_tile::{Axis, is_match};
 
 fn count_coarse(raw: &RawStep) -> u16
     requires { IsShaped raw.now }
@@ -29,83 +20,6 @@ fn count_coarse(raw: &RawStep) -> u16
     ensures small { result ≤ 256 }
 {
     raw.coarse.tiles.as_slice().len() as u16
-}
-
-#[tactic(auto, using(crate::proofs::Shaped::refuted_ascend))]
-fn tree_fault_at(raw: &RawStep, axis: Axis, a: u16, b: u16, radius: u8) -> Option<StepFault>
-    requires shaped { IsShaped raw.now }
-    requires small { radius ≤ 4 }
-    ensures { result ≡ tree_at raw.now axis a b radius }
-{
-    match entry_at(raw, axis, a, b, radius) {
-        None => None,
-        Some(entry) => {
-            let set = SetRef::of(&raw.fine);
-            match check_tree(set, axis, a, b, radius, raw.refuted.as_slice(), &entry.tree) {
-                Ok(()) => None,
-                Err(fault) => Some(StepFault::Node {
-                    axis,
-                    a,
-                    b,
-                    node: fault.node,
-                }),
-            }
-        }
-    }
-}
-
-#[tactic(auto, using(wt_grid::proofs::First::first_more))]
-fn trees_fault(raw: &RawStep, axis: Axis, a: u16, b: u16) -> Option<StepFault>
-    requires { IsShaped raw.now }
-    ensures { result ≡ first_tree raw.now axis a b }
-{
-    for radius in 0..raw.radius + 1 {
-        if let Some(fault) = tree_fault_at(raw, axis, a, b, radius) {
-            return Some(fault);
-        }
-    }
-    None
-}
-
-fn pair_fault(raw: &RawStep, axis: Axis, a: u16, b: u16) -> Option<StepFault>
-    requires { IsShaped raw.now }
-    ensures { result ≡ fault_of_pair raw.now axis a b }
-{
-    if !is_named_well(raw, axis, a, b) {
-        return Some(StepFault::Pair { axis, a, b });
-    }
-    if is_barred(raw, axis, a, b) {
-        trees_fault(raw, axis, a, b)
-    } else {
-        None
-    }
-}
-
-#[tactic(auto, using(wt_grid::proofs::First::first_more))]
-fn row_fault(raw: &RawStep, axis: Axis, a: u16) -> Option<StepFault>
-    requires { IsShaped raw.now }
-    ensures { result ≡ first_of_row raw.now axis a }
-{
-    for b in 0..count_tiles(raw) {
-        if let Some(fault) = pair_fault(raw, axis, a, b) {
-            return Some(fault);
-        }
-    }
-    None
-}
-
-/// The first pair that is neither allowed, nor refuted, nor without a match.
-#[tactic(auto, using(wt_grid::proofs::First::first_more))]
-fn pairs_fault(raw: &RawStep, axis: Axis) -> Option<StepFault>
-    requires { IsShaped raw.now }
-    ensures { result ≡ first_pair raw.now axis }
-{
-    for a in 0..count_tiles(raw) {
-        if let Some(fault) = row_fault(raw, axis, a) {
-            return Some(fault);
-        }
-    }
-    None
 }
 
 fn marker_fault_at(raw: &RawStep, axis: Axis, pair: (u16, u16)) -> Option<StepFault>

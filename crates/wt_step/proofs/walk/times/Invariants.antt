@@ -1,7 +1,7 @@
 use Rattle.std.proofs.Common.{◌≡◌, ◌≤◌, ◌+◌, ◌-◌}
 use Rattle.wt_grid.specs.First.{count_from}
 use Rattle.wt_step.specs.Words.{entry_at, times}
-use Rattle.wt_step.proofs.rules.times.Given as goal
+use Rattle.wt_step.proofs.walk.times.Given as goal
 
 abbrev pub invariant-loop-radius : goal.invariant-loop-radius
 invariant-loop-radius l = record {

@@ -1,0 +1,296 @@
+-- What a walk along a list in strict order sees of it at its place.
+use Rattle.std.proofs.Common.{arith, ◌≡◌, ◌<◌, ◌≤◌, ◌+◌, ℕ, zero, suc, List, [], ◌∷◌, length, get_or, Bool, true, false, ◌&&◌, ◌||◌, nat_eq, nat_lt, nat_le, if◌then◌else◌, Some, None, is_some, refl, sym, ◌∙◌, ap, inl, inr}
+use Rattle.std.proofs.lemmas.Bool.Decides.{nat_tests}
+use Rattle.wt_tile.specs.declared.tile.Axis.{Axis}
+use Rattle.wt_grid.specs.Order.{in_order, leads, has, find, AllAbove, IsSplit}
+use Rattle.wt_grid.specs.Pairs.{pair_before, is_pair, pairs_follow, pair_fits}
+use Rattle.wt_grid.proofs.Keys.{first_by, by_cases, by_less, pairs_split}
+use Rattle.wt_grid.proofs.Order.{both, has_found, above_none}
+use Rattle.wt_refute.specs.declared.tree.Refuted.{Refuted}
+use Rattle.wt_refute.specs.Entries.{entry_before, is_entry, entries_follow, axis_number}
+use Rattle.wt_refute.proofs.Entries.{entries_split}
+use Rattle.wt_step.specs.declared.raw.RawStep.{RawStep}
+use Rattle.wt_step.specs.declared.walk.Places.{Places}
+use Rattle.wt_step.specs.Words.{entry_fits, allowed, allows, entry_at}
+use Rattle.wt_step.specs.Faults.{IsShaped}
+use Rattle.wt_step.specs.Walk.{passed, allowed_place, refuted_place, IsPlaced}
+use Rattle.wt_step.proofs.Shaped.{refuted_ascend}
+
+-- Lists that are split at a key.
+
+module _ {A : Type 0} (low hit : A → Bool) where
+  -- the element at the place is the one that has the key, or none is
+  pub hit_at : (xs : List A) (d : A) → IsSplit low hit xs → passed low xs < length xs
+      → find hit xs ≡ (if hit (get_or xs (passed low xs) d) then Some (get_or xs (passed low xs) d) else None)
+  hit_at [] d s lt = absurd (omega arith)
+  hit_at (x ∷ xs) d s lt = elim s [
+    | inl l ↦ rw (l.0, l.1) (hit_at xs d l.2 (let h = rw l.0 at lt in omega arith))
+    | inr r ↦ rw r.0 (at_first (hit x) refl (above_none low hit xs r.1))
+  ]
+    where
+      at_first : (b : Bool) → hit x ≡ b → find hit xs ≡ None → find hit (x ∷ xs) ≡ (if hit x then Some x else None)
+      at_first true e n = rw e refl
+      at_first false e n = rw e n
+
+  -- none has the key where the place is the end
+  pub miss_at : (xs : List A) → IsSplit low hit xs → length xs ≤ passed low xs → find hit xs ≡ None
+  miss_at [] s le = refl
+  miss_at (x ∷ xs) s le = elim s [
+    | inl l ↦ rw l.1 (miss_at xs l.2 (let h = rw l.0 at le in omega arith))
+    | inr r ↦ absurd (let h = rw r.0 at le in omega arith)
+  ]
+
+  some_if : (b : Bool) (x : A) → is_some (if b then Some x else None) ≡ b
+  some_if true x = refl
+  some_if false x = refl
+
+  pub has_at : (xs : List A) (d : A) → IsSplit low hit xs → passed low xs < length xs → has hit xs ≡ hit (get_or xs (passed low xs) d)
+  has_at xs d s lt = has_found hit xs ∙ (ap is_some (hit_at xs d s lt) ∙ some_if (hit (get_or xs (passed low xs) d)) _)
+
+  pub has_none : (xs : List A) → IsSplit low hit xs → length xs ≤ passed low xs → has hit xs ≡ false
+  has_none xs s le = has_found hit xs ∙ ap is_some (miss_at xs s le)
+
+  -- where one has the key, the place is within the list
+  pub hit_within : (xs : List A) → IsSplit low hit xs → has hit xs ≡ true → passed low xs < length xs
+  hit_within [] s e = absurd cc
+  hit_within (x ∷ xs) s e = elim s [
+    | inl l ↦ let r = hit_within xs l.2 (rw l.1 at e) in rw l.0 (omega arith)
+    | inr r ↦ rw r.0 (omega arith)
+  ]
+
+  pub found_at : (xs : List A) (d : A) → IsSplit low hit xs → has hit xs ≡ true → find hit xs ≡ Some (get_or xs (passed low xs) d)
+  found_at xs d s e =
+      let lt = hit_within xs s e in
+      let h : hit (get_or xs (passed low xs) d) ≡ true = sym (has_at xs d s lt) ∙ e in
+      hit_at xs d s lt ∙ rw h refl
+
+  above_has : (xs : List A) → AllAbove low hit xs → has hit xs ≡ false
+  above_has [] h = refl
+  above_has (x ∷ xs) h = rw h.1 (above_has xs h.2)
+
+  module _ (next : A → Bool) (after : (x : A) → next x ≡ (low x || hit x)) where
+    above_next : (xs : List A) → AllAbove low hit xs → passed next xs ≡ 0
+    above_next [] h = refl
+    above_next (x ∷ xs) h = let e : next x ≡ false = after x ∙ rw (h.0, h.1) refl in rw e refl
+
+    more : (b : Bool) (n : ℕ) → suc (if b then suc n else n) ≡ (if b then suc (suc n) else suc n)
+    more true n = refl
+    more false n = refl
+
+    -- the place at the next key is one further where an element has this one
+    pub passed_next : (xs : List A) → IsSplit low hit xs → passed next xs ≡ (if has hit xs then suc (passed low xs) else passed low xs)
+    passed_next [] s = refl
+    passed_next (x ∷ xs) s = elim s [
+      | inl l ↦
+          let e : next x ≡ true = after x ∙ rw l.0 refl in
+          rw (e, l.0, l.1) (ap suc (passed_next xs l.2) ∙ more (has hit xs) (passed low xs))
+      | inr r ↦ at_first (hit x) refl r.0 (above_has xs r.1) (above_next xs r.1)
+    ]
+      where
+        at_first : (b : Bool) → hit x ≡ b → low x ≡ false → has hit xs ≡ false → passed next xs ≡ 0
+            → passed next (x ∷ xs) ≡ (if has hit (x ∷ xs) then suc (passed low (x ∷ xs)) else passed low (x ∷ xs))
+        at_first true h l m n = let e : next x ≡ true = after x ∙ rw (l, h) refl in rw (e, h, l, n) refl
+        at_first false h l m n = let e : next x ≡ false = after x ∙ rw (l, h) refl in rw (e, h, l, m) refl
+
+-- Before the place, code climbs from element to element.
+
+module _ {A : Type 0} (low : A → Bool) where
+  climbs : (xs : List A) (k : ℕ) (d : A) → k ≤ passed low xs → k < length xs → low (get_or xs k d) ≡ true → k + 1 ≤ passed low xs
+  climbs [] k d le lt e = absurd (omega arith)
+  climbs (x ∷ xs) zero d le lt e = rw e (omega arith)
+  climbs (x ∷ xs) (suc k) d le lt e = at_first (low x) refl (λ under. climbs xs k d under (omega arith) e)
+    where
+      at_first : (b : Bool) → low x ≡ b → (k ≤ passed low xs → k + 1 ≤ passed low xs) → suc k + 1 ≤ passed low (x ∷ xs)
+      at_first true h r = let under : k ≤ passed low xs = (let g = rw h at le in omega arith) in let up = r under in rw h (omega arith)
+      at_first false h r = absurd (let g = rw h at le in omega arith)
+
+  stops : (xs : List A) (k : ℕ) (d : A) → k ≤ passed low xs → k < length xs → low (get_or xs k d) ≡ false → k ≡ passed low xs
+  stops [] k d le lt e = absurd (omega arith)
+  stops (x ∷ xs) zero d le lt e = rw e refl
+  stops (x ∷ xs) (suc k) d le lt e = at_first (low x) refl (λ under. stops xs k d under (omega arith) e)
+    where
+      at_first : (b : Bool) → low x ≡ b → (k ≤ passed low xs → k ≡ passed low xs) → suc k ≡ passed low (x ∷ xs)
+      at_first true h r = rw h (ap suc (r (let g = rw h at le in omega arith)))
+      at_first false h r = absurd (let g = rw h at le in omega arith)
+
+  passed_most : (xs : List A) → passed low xs ≤ length xs
+  passed_most [] = omega arith
+  passed_most (x ∷ xs) = at_first (low x) refl (passed_most xs)
+    where
+      at_first : (b : Bool) → low x ≡ b → passed low xs ≤ length xs → passed low (x ∷ xs) ≤ length (x ∷ xs)
+      at_first true h le = rw h (omega arith)
+      at_first false h le = rw h (omega arith)
+
+  pub ends : (xs : List A) (k : ℕ) → k ≤ passed low xs → length xs ≤ k → k ≡ passed low xs
+  ends xs k le end = omega (arith, passed_most xs)
+
+  module _ (xs ys : List A) (k : ℕ) (d : A) (same : ys ≡ xs) (le : k ≤ passed low xs) where
+    seen : d ≡ get_or ys k d → (b : Bool) → low d ≡ b → low (get_or xs k d) ≡ b
+    seen i b e = ap low (sym (rw same at i)) ∙ e
+
+    pub climbs_at : k < length ys → d ≡ get_or ys k d → low d ≡ true → k + 1 ≤ passed low xs
+    climbs_at lt i e = climbs xs k d le (rw same at lt) (seen i true e)
+
+    pub stops_at : k < length ys → d ≡ get_or ys k d → low d ≡ false → k ≡ passed low xs
+    stops_at lt i e = stops xs k d le (rw same at lt) (seen i false e)
+
+  -- a key behind has its place no earlier
+  pub rises : (other : A → Bool) → ((x : A) → low x ≡ true → other x ≡ true) → (xs : List A) → passed low xs ≤ passed other xs
+  rises other up [] = omega arith
+  rises other up (x ∷ xs) = at_first (low x) refl (rises other up xs)
+    where
+      at_first : (b : Bool) → low x ≡ b → passed low xs ≤ passed other xs → passed low (x ∷ xs) ≤ passed other (x ∷ xs)
+      at_first true h le = rw (h, up x h) (omega arith)
+      at_first false h le = rw h (omega arith)
+
+-- keys that the elements of a list can't tell apart have one place
+pub passed_same : {A : Type 0} (low other fits : A → Bool) (before : A → A → Bool) → ((x : A) → fits x ≡ true → low x ≡ other x)
+    → (xs : List A) → in_order fits before xs ≡ true → passed low xs ≡ passed other xs
+passed_same low other fits before same [] o = refl
+passed_same low other fits before same (x ∷ xs) o =
+    let p = both (fits x && leads before x xs) (in_order fits before xs) o in
+    let q = both (fits x) (leads before x xs) p.0 in
+    rw (same x q.0, passed_same low other fits before same xs p.1) refl
+
+-- Pairs, and the entries of a radius and an axis.
+
+spread : (l e q r : Bool) → (l || (e && (q || r))) ≡ ((l || (e && q)) || (e && r))
+spread true e q r = refl
+spread false true q r = refl
+spread false false q r = refl
+
+below_next : (x y : ℕ) → nat_lt x (y + 1) ≡ (nat_lt x y || nat_eq x y)
+below_next x y = go (nat_lt x y) (nat_eq x y) refl refl
+  where
+    go : (b c : Bool) → nat_lt x y ≡ b → nat_eq x y ≡ c → nat_lt x (y + 1) ≡ (nat_lt x y || nat_eq x y)
+    go true c l m = rw l (grind (arith, nat_tests, l))
+    go false true l m = rw (l, m) (grind (arith, nat_tests, l, m))
+    go false false l m = rw (l, m) (grind (arith, nat_tests, l, m))
+
+pub pair_next : (a b : ℕ) (p : ℕ × ℕ) → pair_before a (b + 1) p ≡ (pair_before a b p || is_pair a b p)
+pair_next a b p = ap (λ t. nat_lt p.0 a || (nat_eq p.0 a && t)) (below_next p.1 b) ∙ spread (nat_lt p.0 a) (nat_eq p.0 a) (nat_lt p.1 b) (nat_eq p.1 b)
+
+pub entry_next : (radius : ℕ) (axis : Axis) (a b : ℕ) (r : Refuted) → entry_before radius axis a (b + 1) r ≡ (entry_before radius axis a b r || is_entry radius axis a b r)
+entry_next radius axis a b r =
+    let n = axis_number r.axis in
+    let m = axis_number axis in
+    let p : ℕ × ℕ = (r.a, r.b) in
+    ap (λ t. nat_lt r.radius radius || (nat_eq r.radius radius && (nat_lt n m || (nat_eq n m && t)))) (pair_next a b p)
+    ∙ (ap (λ t. nat_lt r.radius radius || (nat_eq r.radius radius && t)) (spread (nat_lt n m) (nat_eq n m) (pair_before a b p) (is_pair a b p))
+    ∙ spread (nat_lt r.radius radius) (nat_eq r.radius radius) (nat_lt n m || (nat_eq n m && pair_before a b p)) (nat_eq n m && is_pair a b p))
+
+ended : (l e c : Bool) → (l || (e && true)) ≡ ((l || e) || (c && false))
+ended true e c = refl
+ended false true c = refl
+ended false false true = refl
+ended false false false = refl
+
+row_ends : (x y n a : ℕ) → nat_lt y n ≡ true → pair_before a n (x, y) ≡ pair_before (a + 1) 0 (x, y)
+row_ends x y n a e =
+    let none : nat_lt y 0 ≡ false = grind (arith, nat_tests) in
+    rw (e, none, below_next x a) (ended (nat_lt x a) (nat_eq x a) (nat_eq x (a + 1)))
+
+-- behind the last tile of a row comes the next row
+pub pair_row : (n a : ℕ) (p : ℕ × ℕ) → pair_fits n p ≡ true → pair_before a n p ≡ pair_before (a + 1) 0 p
+pair_row n a p e = row_ends p.0 p.1 n a (both (nat_lt p.0 n) (nat_lt p.1 n) e).1
+
+pub entry_row : (most n radius : ℕ) (axis : Axis) (a : ℕ) (r : Refuted) → entry_fits most n r ≡ true → entry_before radius axis a n r ≡ entry_before radius axis (a + 1) 0 r
+entry_row most n radius axis a r e =
+    ap (λ t. nat_lt r.radius radius || (nat_eq r.radius radius && (nat_lt (axis_number r.axis) (axis_number axis) || (nat_eq (axis_number r.axis) (axis_number axis) && t))))
+    (row_ends r.a r.b n a (both (nat_le r.radius most && nat_lt r.a n) (nat_lt r.b n) e).1)
+
+abbrev under_radius : Axis → Refuted → Bool
+under_radius axis r = first_by (axis_number r.axis) (axis_number axis) (pair_before 0 0 (r.a, r.b))
+
+-- the refutations of a radius come before those of the next
+pub radius_rises : (radius : ℕ) (axis : Axis) (rs : List Refuted) → passed (entry_before radius axis 0 0) rs ≤ passed (entry_before (radius + 1) axis 0 0) rs
+radius_rises radius axis rs = rises (entry_before radius axis 0 0) (entry_before (radius + 1) axis 0 0) up rs
+  where
+    up : (r : Refuted) → entry_before radius axis 0 0 r ≡ true → entry_before (radius + 1) axis 0 0 r ≡ true
+    up r e = elim (by_cases r.radius radius (under_radius axis r) e) [
+      | inl lt ↦ by_less r.radius (radius + 1) (under_radius axis r) (omega arith)
+      | inr s ↦ by_less r.radius (radius + 1) (under_radius axis r) (let same : r.radius ≡ radius = s.0 in omega arith)
+    ]
+
+-- no pair comes before that of 0 and 0
+pub none_passed : (ps : List (ℕ × ℕ)) → passed (pair_before 0 0) ps ≡ 0
+none_passed [] = refl
+none_passed (p ∷ ps) =
+    let e : nat_lt p.0 0 ≡ false = grind (arith, nat_tests) in
+    let f : nat_lt p.1 0 ≡ false = grind (arith, nat_tests) in
+    rw (e, f) (go (nat_eq p.0 0))
+  where
+    go : (b : Bool) → (if (false || (b && false)) then suc (passed (pair_before 0 0) ps) else 0) ≡ 0
+    go true = refl
+    go false = refl
+
+-- The lists of a step.
+
+module _ (s : RawStep) (h : IsShaped s) (axis : Axis) (a b : ℕ) where
+  pub allowed_split : IsSplit (pair_before a b) (is_pair a b) (allowed s axis)
+  allowed_split = pairs_split (length s.fine.tiles) a b (allowed s axis) (h.allowed axis)
+
+  pub refuted_split : (radius : ℕ) → IsSplit (entry_before radius axis a b) (is_entry radius axis a b) s.refuted
+  refuted_split radius = entries_split radius axis a b s.refuted (refuted_ascend s h)
+
+  pub allowed_next : allowed_place s axis a (b + 1) ≡ (if allows s axis a b then suc (allowed_place s axis a b) else allowed_place s axis a b)
+  allowed_next = passed_next (pair_before a b) (is_pair a b) (pair_before a (b + 1)) (pair_next a b) (allowed s axis) allowed_split
+
+  pub refuted_next : (radius : ℕ) → refuted_place s axis a (b + 1) radius
+      ≡ (if is_some (entry_at s axis a b radius) then suc (refuted_place s axis a b radius) else refuted_place s axis a b radius)
+  refuted_next radius =
+      let e = passed_next (entry_before radius axis a b) (is_entry radius axis a b) (entry_before radius axis a (b + 1)) (entry_next radius axis a b) s.refuted (refuted_split radius) in
+      rw (has_found (is_entry radius axis a b) s.refuted) at e
+
+  -- what code sees at the place of an allowed pair
+
+  pub allowed_here : (pairs : List (ℕ × ℕ)) (place : ℕ) (d : ℕ × ℕ) → pairs ≡ allowed s axis → place ≡ allowed_place s axis a b → place < length pairs
+      → allows s axis a b ≡ is_pair a b (get_or pairs place d)
+  allowed_here pairs place d e p lt = rw (e, p) (has_at (pair_before a b) (is_pair a b) (allowed s axis) d allowed_split (rw (e, p) at lt))
+
+  pub allowed_past : (pairs : List (ℕ × ℕ)) (place : ℕ) → pairs ≡ allowed s axis → place ≡ allowed_place s axis a b → length pairs ≤ place → allows s axis a b ≡ false
+  allowed_past pairs place e p le = has_none (pair_before a b) (is_pair a b) (allowed s axis) allowed_split (rw (e, p) at le)
+
+  pub allowed_hit : (place : ℕ) → place ≡ allowed_place s axis a b → allows s axis a b ≡ true → place + 1 ≡ allowed_place s axis a (b + 1)
+  allowed_hit place p e = let n = rw e at allowed_next in omega (arith, n, p)
+
+  pub allowed_miss : (place : ℕ) → place ≡ allowed_place s axis a b → allows s axis a b ≡ false → place ≡ allowed_place s axis a (b + 1)
+  allowed_miss place p e = let n = rw e at allowed_next in p ∙ sym n
+
+  -- and at that of a refutation
+
+  module _ (radius : ℕ) where
+    pub refuted_here : (entries : List Refuted) (place : ℕ) (d : Refuted) → entries ≡ s.refuted → place ≡ refuted_place s axis a b radius → place < length entries
+        → is_some (entry_at s axis a b radius) ≡ is_entry radius axis a b (get_or entries place d)
+    refuted_here entries place d e p lt =
+        rw (e, p) (sym (has_found (is_entry radius axis a b) s.refuted)
+        ∙ has_at (entry_before radius axis a b) (is_entry radius axis a b) s.refuted d (refuted_split radius) (rw (e, p) at lt))
+
+    pub refuted_past : (entries : List Refuted) (place : ℕ) → entries ≡ s.refuted → place ≡ refuted_place s axis a b radius → length entries ≤ place
+        → is_some (entry_at s axis a b radius) ≡ false
+    refuted_past entries place e p le = ap is_some (miss_at (entry_before radius axis a b) (is_entry radius axis a b) s.refuted (refuted_split radius) (rw (e, p) at le))
+
+    is_refuted : is_some (entry_at s axis a b radius) ≡ true → has (is_entry radius axis a b) s.refuted ≡ true
+    is_refuted e = has_found (is_entry radius axis a b) s.refuted ∙ e
+
+    pub refuted_within : (entries : List Refuted) (place : ℕ) → entries ≡ s.refuted → place ≡ refuted_place s axis a b radius → is_some (entry_at s axis a b radius) ≡ true
+        → place < length entries
+    refuted_within entries place e p f = rw (e, p) (hit_within (entry_before radius axis a b) (is_entry radius axis a b) s.refuted (refuted_split radius) (is_refuted f))
+
+    pub refuted_found : (entries : List Refuted) (place : ℕ) (d : Refuted) → entries ≡ s.refuted → place ≡ refuted_place s axis a b radius → is_some (entry_at s axis a b radius) ≡ true
+        → entry_at s axis a b radius ≡ Some (get_or entries place d)
+    refuted_found entries place d e p f = rw (e, p) (found_at (entry_before radius axis a b) (is_entry radius axis a b) s.refuted d (refuted_split radius) (is_refuted f))
+
+    pub refuted_hit : (place : ℕ) → place ≡ refuted_place s axis a b radius → is_some (entry_at s axis a b radius) ≡ true → place + 1 ≡ refuted_place s axis a (b + 1) radius
+    refuted_hit place p e = let n = rw e at (refuted_next radius) in omega (arith, n, p)
+
+    pub refuted_miss : (place : ℕ) → place ≡ refuted_place s axis a b radius → is_some (entry_at s axis a b radius) ≡ false → place ≡ refuted_place s axis a (b + 1) radius
+    refuted_miss place p e = let n = rw e at (refuted_next radius) in p ∙ sym n
+
+pub next_row : (s : RawStep) (axis : Axis) (a : ℕ) (places : Places) → IsShaped s → IsPlaced s axis a (length s.fine.tiles) places → IsPlaced s axis (a + 1) 0 places
+next_row s axis a places h p =
+    let n = length s.fine.tiles in
+    record {
+      allowed = p.allowed ∙ passed_same (pair_before a n) (pair_before (a + 1) 0) (pair_fits n) pairs_follow (pair_row n a) (allowed s axis) (h.allowed axis);
+      refuted = λ radius le. p.refuted radius le ∙ passed_same (entry_before radius axis a n) (entry_before radius axis (a + 1) 0) (entry_fits s.radius n) entries_follow (entry_row s.radius n radius axis a) s.refuted h.refuted;
+    }

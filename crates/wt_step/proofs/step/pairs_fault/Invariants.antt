@@ -1,7 +1,0 @@
-use Rattle.std.proofs.Common.{◌≡◌, ◌-◌, length}
-use Rattle.wt_grid.specs.First.{first_from}
-use Rattle.wt_step.specs.Faults.{row_fault, pairs_fault}
-use Rattle.wt_step.proofs.step.pairs_fault.Given as goal
-
-abbrev pub invariant-loop-a : goal.invariant-loop-a
-invariant-loop-a l = first_from (row_fault l.raw l.axis) l.a (length l.raw.fine.tiles - l.a) ≡ pairs_fault l.raw l.axis

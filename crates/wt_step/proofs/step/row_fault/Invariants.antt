@@ -1,7 +1,0 @@
-use Rattle.std.proofs.Common.{◌≡◌, ◌-◌, length}
-use Rattle.wt_grid.specs.First.{first_from}
-use Rattle.wt_step.specs.Faults.{pair_fault, row_fault}
-use Rattle.wt_step.proofs.step.row_fault.Given as goal
-
-abbrev pub invariant-loop-b : goal.invariant-loop-b
-invariant-loop-b l = first_from (pair_fault l.raw l.axis l.a) l.b (length l.raw.fine.tiles - l.b) ≡ row_fault l.raw l.axis l.a
