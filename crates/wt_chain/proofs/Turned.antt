@@ -21,9 +21,10 @@ use Rattle.wt_grid.proofs.Traces.{segment_lines, listed_map, listed_same}
 use Rattle.wt_grid.proofs.Widths.{length_last}
 use Rattle.wt_step.specs.declared.raw.RawLink.{RawLink}
 use Rattle.wt_step.specs.declared.raw.RawLink.TheVariants.{Marker, Restrict}
-use Rattle.wt_step.specs.Meaning.{piece}
+use Rattle.wt_morphism.specs.Images.{piece}
+use Rattle.wt_step.specs.Meaning.{pieces_of}
 use Rattle.wt_chain.specs.Growth.{image_of, is_along, tiles_of, first_of, stage, stages, origin, renaming_stage, turn, turns}
-use Rattle.wt_chain.specs.Turns.{axis_of, pieces_of, image_under, image_through, renamed_back, turned, turned_times, single}
+use Rattle.wt_chain.specs.Turns.{axis_of, image_under, image_through, renamed_back, turned, turned_times, single}
 
 -- Pieces and images.
 

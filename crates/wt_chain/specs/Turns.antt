@@ -1,24 +1,18 @@
 -- What a loop makes of a rectangle over its first set.
-use Rattle.std.specs.Prelude.{ℕ, zero, suc, List, [], ◌∷◌, map}
+use Rattle.std.specs.Prelude.{ℕ, zero, suc, List, [], ◌∷◌}
 use Rattle.wt_tile.specs.Matching.{grid_axis}
-use Rattle.wt_grid.specs.Lines.{Piece, one}
 use Rattle.wt_grid.specs.Grid.{Grid, Axis, cell, grid_of}
 use Rattle.wt_grid.specs.Grid.{one as first_axis}
 use Rattle.wt_grid.specs.Images.{image_grid}
 use Rattle.wt_step.specs.declared.raw.RawLink.{RawLink}
 use Rattle.wt_step.specs.declared.raw.RawLink.TheVariants.{Marker, Restrict}
-use Rattle.wt_step.specs.Meaning.{pieces}
+use Rattle.wt_step.specs.Meaning.{pieces_of}
 use Rattle.wt_chain.specs.Growth.{origin}
 
 -- the axis along which a step's images lie; those of a restrict step are single tiles
 abbrev pub axis_of : RawLink → Axis
 axis_of (Marker s) = grid_axis s.axis
 axis_of (Restrict s) = first_axis
-
--- what the coarse tiles stand for
-abbrev pub pieces_of : RawLink → List Piece
-pieces_of (Marker s) = pieces s
-pieces_of (Restrict s) = map one s.kept
 
 -- the rectangle that a coarse rectangle stands for
 abbrev pub image_under : RawLink → Grid → Grid

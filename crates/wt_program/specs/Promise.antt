@@ -15,7 +15,8 @@ use Rattle.wt_step.specs.Meaning.{line_side, pieces}
 use Rattle.wt_step.specs.Coarse.{IsCoarseOf}
 use Rattle.wt_chain.specs.declared.raw.RawChain.{RawChain}
 use Rattle.wt_chain.specs.declared.raw.End.TheVariants.{Loop}
-use Rattle.wt_scale.specs.Sizes.{magnitude, size_of}
+use Rattle.wt_step.specs.Carried.{magnitude}
+use Rattle.wt_scale.specs.Sizes.{size_of}
 use Rattle.wt_scale.specs.Existence.{HasPattern}
 use Rattle.wt_program.specs.Checks.{chain_of}
 

@@ -1,4 +1,3 @@
-pub mod PeriodLaw
 pub mod Lowering
 pub mod Renamed
 pub mod Standing

@@ -25,7 +25,8 @@ use Rattle.wt_step.specs.Meaning.{kept_pieces}
 use Rattle.wt_step.proofs.Goodness.{good_step}
 use Rattle.wt_step.proofs.Restricted.{good_restrict}
 use Rattle.wt_step.proofs.ImageLaw.{image_valid}
-use Rattle.wt_chain.specs.Turns.{axis_of, pieces_of, image_under}
+use Rattle.wt_chain.specs.Turns.{axis_of, image_under}
+use Rattle.wt_step.specs.Meaning.{pieces_of}
 use Rattle.wt_chain.proofs.Grown.{first_fits}
 use Rattle.wt_scale.specs.Scales.{same_grid_axis}
 use Rattle.wt_scale.specs.Existence.{ValidImage}

@@ -36,7 +36,8 @@ use Rattle.wt_step.proofs.Goodness.{good_step}
 use Rattle.wt_step.proofs.Restricted.{good_restrict, some_kept, kept_once}
 use Rattle.wt_step.proofs.Desubstitution.{some_coarse}
 use Rattle.wt_scale.specs.Scales.{Lowered, side_below, same_grid_axis}
-use Rattle.wt_scale.proofs.PeriodLaw.{carried}
+use Rattle.wt_step.proofs.PeriodLaw.{carried}
+use Rattle.wt_step.proofs.KeptPeriods.{no_pairs, kept_vector}
 
 -- what a marker step along axis x does to a period of d lines along it and e cells across
 record Along (x : GridAxis) (im : List Piece) (p q : Grid) (side : ℕ) (opposed : Bool) (d e : ℕ) : Type 0 where
@@ -160,32 +161,6 @@ module _ (s : RawStep) (g : GoodStep s) where
 -- ---- restrict steps
 
 module _ (s : RawRestrict) (g : GoodRestrict s) where
-  kept_apart : (i j a : ℕ) → slice_get (kept_pieces s) i ≡ Some (one a) → slice_get (kept_pieces s) j ≡ Some (one a) → i ≡ j
-  kept_apart i j a e f = kept_once s g i j a (back i a e) (back j a f)
-    where
-      of_one : (o : Option ℕ) (a : ℕ) → option_map one o ≡ Some (one a) → o ≡ Some a
-      of_one None a e = absurd cc
-      of_one (Some b) a e = let f : Some (one b) ≡ Some (one a) = e in cc
-
-      back : (i a : ℕ) → slice_get (kept_pieces s) i ≡ Some (one a) → slice_get s.kept i ≡ Some a
-      back i a e = of_one (slice_get s.kept i) a (sym (slice_get-map one s.kept i) ∙ e)
-
-  no_pairs : NoPairs (kept_pieces s)
-  no_pairs i a b e = none (slice_get s.kept i) (sym (slice_get-map one s.kept i) ∙ e)
-    where
-      none : (o : Option ℕ) → option_map one o ≡ Some (two a b) → ⊥
-      none None e = cc
-      none (Some c) e = let f : Some (one c) ≡ Some (two a b) = e in cc
-
-  -- a period of the core is one of the kept rectangle
-  kept_vector : (c q : Grid) (d a b : ℕ) → StandsFor (kept_pieces s) first_axis q c → IsRepeated first_axis d a b c → IsRepeated first_axis d a b q
-  kept_vector c q d a b st h i j li la lb =
-      let w = st.0 in let t = st.1 in
-      let x = st.2 i (j + a) (omega arith) (omega arith) in
-      let y = st.2 (i + d) (j + b) (omega arith) (omega arith) in
-      let e : at first_axis c i (j + a) ≡ at first_axis c (i + d) (j + b) = h i j (omega arith) (omega arith) (omega arith) in
-      kept_apart (at first_axis q i (j + a)) (at first_axis q (i + d) (j + b)) (at first_axis c i (j + a)) x (y ∙ ap (λ (z : ℕ). Some (one z)) (sym e))
-
   whole_in : (ls : List (List ℕ)) → StandsIn ls ls
   whole_in ls = ([], [], sym (append-nil ls))
 
@@ -195,7 +170,7 @@ module _ (s : RawRestrict) (g : GoodRestrict s) where
       let r = s.radius in
       let c = core r p in
       let q = some_kept s g p v (omega arith) (omega arith) in
-      let st = cells_stand (kept_pieces s) first_axis q.0 c no_pairs q.2.0 (omega arith) q.1 in
+      let st = cells_stand (kept_pieces s) first_axis q.0 c (no_pairs s g) q.2.0 (omega arith) q.1 in
       let tw = stand_image (kept_pieces s) second_axis q.0 c (stand_other (kept_pieces s) first_axis q.0 c st) in
       let w = st.0 in let t = st.1 in
       record {
@@ -206,7 +181,7 @@ module _ (s : RawRestrict) (g : GoodRestrict s) where
         high = omega arith;
         right = dx;
         up = dy;
-        vector = kept_vector c q.0 dx (cond opposed dy 0) (cond opposed 0 dy) st (core_repeated first_axis r dx (cond opposed dy 0) (cond opposed 0 dy) p h);
+        vector = kept_vector s g c q.0 dx (cond opposed dy 0) (cond opposed 0 dy) st (core_repeated first_axis r dx (cond opposed dy 0) (cond opposed 0 dy) p h);
         right_shorter = omega arith;
         up_shorter = omega arith;
         right_half = omega arith;

@@ -1,5 +1,5 @@
 -- No vector is a period of a large valid pattern over the first set of a looped chain.
-use Rattle.std.proofs.Common.{arith, ◌≡◌, ◌⊎◌, ◌≤◌, ◌<◌, ◌+◌, ◌*◌, ◌^◌, ℕ, zero, suc, ℤ, pos, negsuc, List, [], ◌∷◌, ◌++◌, length, take, drop, Bool, true, false, refl, sym, ◌∙◌, ap, subst, inl, inr}
+use Rattle.std.proofs.Common.{arith, ◌≡◌, ◌⊎◌, ◌≤◌, ◌<◌, ◌+◌, ◌*◌, ◌^◌, ℕ, zero, suc, ℤ, List, [], ◌∷◌, ◌++◌, length, take, drop, Bool, true, false, refl, sym, ◌∙◌, ap, subst, inl, inr}
 use Rattle.std.proofs.lemmas.List.{take-append-drop}
 use Rattle.std.proofs.Math.Nat.{pow-succ'}
 use Rattle.wt_tile.specs.declared.tile.Tile.{Tile}
@@ -8,7 +8,6 @@ use Rattle.wt_tile.specs.declared.tile.Axis.TheVariants.{One, Two}
 use Rattle.wt_bijection.specs.Carried.{IsRenaming}
 use Rattle.wt_pattern.specs.Patterns.{IsPattern}
 use Rattle.wt_pattern.specs.Periods.{IsPeriod}
-use Rattle.wt_pattern.proofs.PeriodLaws.{forward_repeated, back_repeated, opposite_period}
 use Rattle.wt_grid.specs.Grid.{Grid, at, listed}
 use Rattle.wt_grid.specs.Grid.{one as first_axis, two as second_axis}
 use Rattle.wt_grid.specs.Shifts.{HasVector}
@@ -24,7 +23,9 @@ use Rattle.wt_chain.specs.Sets.{last_set, AreLinked, IsRun}
 use Rattle.wt_chain.specs.Growth.{stages, turns}
 use Rattle.wt_chain.specs.Good.{GoodChain, GoodLoop, GoodEnd, Grows}
 use Rattle.wt_chain.proofs.Turned.{wide, high}
-use Rattle.wt_scale.specs.Sizes.{size_from, turns_size, size_of, magnitude}
+use Rattle.wt_scale.specs.Sizes.{size_from, turns_size, size_of}
+use Rattle.wt_step.specs.Carried.{magnitude}
+use Rattle.wt_step.proofs.SignedPeriods.{are_opposed, to_vector}
 use Rattle.wt_scale.proofs.Standing.{Standing, larger_turns, steps_up, turns_up, anew}
 
 -- where each tile grows to two cells at least, a run of cells grows to twice its length
@@ -151,15 +152,6 @@ at_start first rest linked start list e (l ∷ ls) same good k m opposed d c ld 
     still : {d c r u : ℕ} → (1 ≤ d) ⊎ (1 ≤ c) → (1 ≤ d → 1 ≤ r) → (1 ≤ c → 1 ≤ u) → (1 ≤ r) ⊎ (1 ≤ u)
     still some f g = elim some [ inl h ↦ inl (f h) | inr h ↦ inr (g h) ]
 
--- ---- vectors of integers
-
-vector_of : (g : Grid) (x y : ℤ) → IsPeriod g x y → (opposed : Bool) × HasVector first_axis opposed (magnitude x) (magnitude y) g
-vector_of g (pos a) (pos b) h = (false, forward_repeated first_axis g a b h)
-vector_of g (pos a) (negsuc b) h = (true, back_repeated first_axis g a (suc b) h)
-vector_of g (negsuc a) (pos zero) h = (false, forward_repeated first_axis g (suc a) 0 (opposite_period first_axis g (negsuc a) (pos 0) h))
-vector_of g (negsuc a) (pos (suc b)) h = (true, back_repeated first_axis g (suc a) (suc b) (opposite_period first_axis g (negsuc a) (pos (suc b)) h))
-vector_of g (negsuc a) (negsuc b) h = (false, forward_repeated first_axis g (suc a) (suc b) (opposite_period first_axis g (negsuc a) (negsuc b) h))
-
 pub run_is_linked : (first : RawLink) (rest steps : List RawLink) → steps ≡ first ∷ rest → IsRun steps → AreLinked (fine_of first) (first ∷ rest)
 run_is_linked first rest steps e run = subst (λ (xs : List RawLink). IsRun xs) e run
 
@@ -170,9 +162,10 @@ pub no_period : (c : RawChain) → GoodChain c → (start e : ℕ) (list : List 
 no_period c good start e list end first rest steps x y m k lx ly lm some p v w h period =
     let linked = run_is_linked first rest c.steps steps good.run in
     let loop : GoodLoop (drop start (first ∷ rest)) list e = subst (λ (xs : List RawLink). GoodLoop (drop start xs) list e) steps (subst (λ (z : _). GoodEnd c.steps z) end good.end) in
-    let vec = vector_of p x y period in
+    let vec = to_vector first_axis p x y period in
+    let opposed = are_opposed x y in
     let size : ℕ = size_of (first ∷ rest) start e k m in
     let w' : size ≤ p.width = subst (λ (xs : List RawLink). size_of xs start e k m ≤ p.width) steps w in
     let h' : size ≤ p.height = subst (λ (xs : List RawLink). size_of xs start e k m ≤ p.height) steps h in
-    at_start first rest linked start list e (drop start (first ∷ rest)) refl loop k m vec.0 (magnitude x) (magnitude y) lx ly lm some
-    (started (fine_of first).tiles size vec.0 (magnitude x) (magnitude y) p v w' h' vec.1)
+    at_start first rest linked start list e (drop start (first ∷ rest)) refl loop k m opposed (magnitude x) (magnitude y) lx ly lm some
+    (started (fine_of first).tiles size opposed (magnitude x) (magnitude y) p v w' h' vec)

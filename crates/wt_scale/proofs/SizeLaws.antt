@@ -13,7 +13,8 @@ use Rattle.wt_chain.specs.declared.raw.End.{End}
 use Rattle.wt_chain.specs.declared.raw.End.TheVariants.{Open, Loop}
 use Rattle.wt_chain.specs.Good.{GoodLoop, GoodEnd, GoodChain}
 use Rattle.wt_scale.specs.declared.size.SizeFault.TheVariants.{ZeroVector, TooLarge}
-use Rattle.wt_scale.specs.Sizes.{magnitude, size_from, turns_size}
+use Rattle.wt_scale.specs.Sizes.{size_from, turns_size}
+use Rattle.wt_step.specs.Carried.{magnitude}
 use Rattle.wt_scale.specs.Vectors.{digits, reach, size_up_to, in_u128, size_by_end, size_result}
 use Rattle.wt_scale.proofs.NoPeriods.{no_period}
 use Rattle.wt_scale.proofs.Digits.{below_digits}

@@ -22,10 +22,11 @@ use Rattle.wt_step.specs.declared.raw.RawLink.{RawLink}
 use Rattle.wt_step.specs.declared.raw.RawLink.TheVariants.{Marker, Restrict}
 use Rattle.wt_step.specs.Links.{link_fault, fine_of, coarse_of}
 use Rattle.wt_step.specs.Words.{image_at}
-use Rattle.wt_step.specs.Meaning.{piece}
+use Rattle.wt_morphism.specs.Images.{piece}
+use Rattle.wt_step.specs.Meaning.{pieces_of}
 use Rattle.wt_chain.specs.Sets.{last_set, AreLinked}
 use Rattle.wt_chain.specs.Growth.{tiles_of, first_of, stage, renaming_stage, stages, turn, turns}
-use Rattle.wt_scale.specs.Scales.{link_pieces, lies_along, same_grid_axis, side_below}
+use Rattle.wt_scale.specs.Scales.{lies_along, same_grid_axis, side_below}
 use Rattle.wt_scale.specs.Sizes.{size_from, turns_size}
 use Rattle.wt_scale.proofs.Lowering.{lowered}
 use Rattle.wt_scale.proofs.Renamed.{renamed, renamed_width, renamed_height, renamed_pattern, renamed_repeats, renamed_traced}
@@ -62,7 +63,7 @@ axis_same One Two = refl
 axis_same Two One = refl
 axis_same Two Two = refl
 
-stage_of : (axis : Axis) (l : RawLink) → IsStageOf (lies_along (grid_axis axis) l) (link_pieces l) (stage axis l)
+stage_of : (axis : Axis) (l : RawLink) → IsStageOf (lies_along (grid_axis axis) l) (pieces_of l) (stage axis l)
 stage_of axis (Marker s) = record {
   axis = axis_same axis s.axis;
   pieces = λ t. tiles_same (image_at s t) ∙ ap piece_tiles (sym (get_or-map piece s.images t (Single 0)));

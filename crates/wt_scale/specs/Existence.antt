@@ -6,7 +6,8 @@ use Rattle.wt_grid.specs.Grid.{Grid, along, across, lines}
 use Rattle.wt_grid.specs.Lines.{IsImage}
 use Rattle.wt_step.specs.declared.raw.RawLink.{RawLink}
 use Rattle.wt_step.specs.Links.{fine_of}
-use Rattle.wt_chain.specs.Turns.{axis_of, pieces_of, image_under}
+use Rattle.wt_step.specs.Meaning.{pieces_of}
+use Rattle.wt_chain.specs.Turns.{axis_of, image_under}
 use Rattle.wt_scale.specs.Scales.{lies_along}
 
 -- The rectangle that a coarse pattern stands for by a step: it is valid, equally large across the axis of the images, and along it at least as large, at most twice, and equally large where each image is a single tile.

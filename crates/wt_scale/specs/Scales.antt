@@ -1,35 +1,17 @@
--- What a good step does to sizes, periods and runs of cells.
-use Rattle.std.specs.Prelude.{◌≡◌, ℕ, ◌+◌, ◌*◌, ◌≤◌, Bool, true, false, List, ◌∷◌, length, take, drop}
+-- What a good step of either kind does to sizes, periods and runs of cells.
+use Rattle.std.specs.Prelude.{ℕ, ◌+◌, ◌*◌, ◌≤◌, Bool, true, false, List, ◌∷◌}
 use Rattle.wt_tile.specs.Matching.{grid_axis}
 use Rattle.wt_pattern.specs.Patterns.{IsPattern}
-use Rattle.wt_grid.specs.Grid.{Grid, along, lines}
+use Rattle.wt_grid.specs.Grid.{Grid}
 use Rattle.wt_grid.specs.Grid.{Axis as GridAxis, one as first_axis, two as second_axis}
-use Rattle.wt_grid.specs.Lines.{Piece}
 use Rattle.wt_grid.specs.Shifts.{HasVector}
-use Rattle.wt_grid.specs.Images.{image_lines}
 use Rattle.wt_grid.specs.Widths.{Stage}
 use Rattle.wt_grid.specs.Traces.{IsStageOf, IsTraced}
-use Rattle.wt_step.specs.declared.raw.RawStep.{RawStep}
 use Rattle.wt_step.specs.declared.raw.RawLink.{RawLink}
 use Rattle.wt_step.specs.declared.raw.RawLink.TheVariants.{Marker, Restrict}
 use Rattle.wt_step.specs.Links.{coarse_of}
-use Rattle.wt_step.specs.Meaning.{pieces, kept_pieces}
+use Rattle.wt_step.specs.Meaning.{pieces_of}
 use Rattle.wt_step.specs.Coarse.{IsCoarseOf}
-
--- A period of d lines along the step's axis and e cells across it has become one of n coarse lines and e cells on the coarse rectangle q: n coarse lines stand for d lines, wherever they begin.
-pub record IsCarried (s : RawStep) (opposed : Bool) (d e n : ℕ) (q : Grid) : Type 0 where
-  pub vector : HasVector (grid_axis s.axis) opposed n e q
-  pub filled : (k : ℕ) → k + n ≤ along (grid_axis s.axis) q → length (image_lines (pieces s) (take n (drop k (lines (grid_axis s.axis) q)))) ≡ d
-  -- no longer than before, and at least half as long: so none exactly where there was none
-  pub shorter : n ≤ d
-  pub half : d ≤ n + n
-
--- ---- steps of either kind
-
--- what each coarse tile stands for
-abbrev pub link_pieces : RawLink → List Piece
-link_pieces (Marker s) = pieces s
-link_pieces (Restrict s) = kept_pieces s
 
 abbrev pub same_grid_axis : GridAxis → GridAxis → Bool
 same_grid_axis first_axis first_axis = true
@@ -61,5 +43,5 @@ pub record Lowered (l : RawLink) (p : Grid) (side : ℕ) (opposed : Bool) (dx dy
   pub up_shorter : up ≤ dy
   pub right_half : dx ≤ right + right
   pub up_half : dy ≤ up + up
-  pub right_runs : (s : Stage) (ss : List Stage) (d : ℕ) → IsStageOf (lies_along first_axis l) (link_pieces l) s → IsTraced first_axis ss d p dx → IsTraced first_axis (s ∷ ss) d coarse right
-  pub up_runs : (s : Stage) (ss : List Stage) (d : ℕ) → IsStageOf (lies_along second_axis l) (link_pieces l) s → IsTraced second_axis ss d p dy → IsTraced second_axis (s ∷ ss) d coarse up
+  pub right_runs : (s : Stage) (ss : List Stage) (d : ℕ) → IsStageOf (lies_along first_axis l) (pieces_of l) s → IsTraced first_axis ss d p dx → IsTraced first_axis (s ∷ ss) d coarse right
+  pub up_runs : (s : Stage) (ss : List Stage) (d : ℕ) → IsStageOf (lies_along second_axis l) (pieces_of l) s → IsTraced second_axis ss d p dy → IsTraced second_axis (s ∷ ss) d coarse up

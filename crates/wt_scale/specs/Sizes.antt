@@ -1,5 +1,5 @@
 -- How large a pattern has to be so that no vector of a length is a period of it.
-use Rattle.std.specs.Prelude.{ℕ, zero, suc, ◌+◌, ◌*◌, ℤ, pos, negsuc, List, [], ◌∷◌, take, drop}
+use Rattle.std.specs.Prelude.{ℕ, zero, suc, ◌+◌, ◌*◌, List, [], ◌∷◌, take, drop}
 use Rattle.wt_step.specs.declared.raw.RawLink.{RawLink}
 use Rattle.wt_scale.specs.Scales.{side_below}
 
@@ -16,8 +16,3 @@ turns_size loop (suc n) side = turns_size loop n (size_from loop side)
 -- the size for vectors of components of at most m, which k turns of the loop to the power e outgrow: the steps before the loop, and then e times k turns
 abbrev pub size_of : List RawLink → ℕ → ℕ → ℕ → ℕ → ℕ
 size_of steps start e k m = size_from (take start steps) (turns_size (drop start steps) (e * k) (m + 2))
-
--- how long a component of a vector is
-abbrev pub magnitude : ℤ → ℕ
-magnitude (pos n) = n
-magnitude (negsuc n) = suc n

@@ -5,7 +5,8 @@ use Rattle.wt_step.specs.declared.raw.RawLink.{RawLink}
 use Rattle.wt_chain.specs.declared.raw.RawChain.{RawChain}
 use Rattle.wt_chain.specs.declared.raw.End.{End}
 use Rattle.wt_chain.specs.declared.raw.End.TheVariants.{Open, Loop}
-use Rattle.wt_scale.specs.Sizes.{magnitude, size_of}
+use Rattle.wt_step.specs.Carried.{magnitude}
+use Rattle.wt_scale.specs.Sizes.{size_of}
 use Rattle.wt_scale.specs.declared.size.SizeFault.{SizeFault}
 use Rattle.wt_scale.specs.declared.size.SizeFault.TheVariants.{OpenChain, ZeroVector, TooLarge}
 

@@ -1,8 +1,7 @@
 // What good marker steps do to patterns and their periods.
 ghost use Rattle.std.specs.Prelude.{◌≡◌, ◌⊎◌, ◌+◌, ◌^◌, ◌∷◌, ◌<◌, ◌≤◌, None, Ok, ℕ, ℤ, List, Bool};
 ghost use Rattle.wt_tile.specs.Matching.{grid_axis};
-ghost use Rattle.wt_grid.specs.Grid.{Grid, IsGrid, along, across, lines, one};
-ghost use Rattle.wt_grid.specs.Parts.{core};
+ghost use Rattle.wt_grid.specs.Grid.{Grid, lines, one};
 ghost use Rattle.wt_grid.specs.Lines.{IsImage};
 ghost use Rattle.wt_grid.specs.Images.{image_grid};
 ghost use Rattle.wt_grid.specs.Shifts.{HasVector};
@@ -11,7 +10,7 @@ ghost use Rattle.wt_tile.specs.declared.tile.Tile.{Tile};
 ghost use Rattle.wt_bijection.specs.Carried.{IsRenaming};
 ghost use Rattle.wt_step.specs.declared.raw.RawStep.{RawStep};
 ghost use Rattle.wt_step.specs.Faults.{step_fault as first_fault};
-ghost use Rattle.wt_step.specs.Meaning.{pieces, IsCoarse};
+ghost use Rattle.wt_step.specs.Meaning.{pieces};
 ghost use Rattle.wt_step.specs.declared.raw.RawLink.{RawLink};
 ghost use Rattle.wt_step.specs.Links.{link_fault, fine_of, coarse_of};
 ghost use Rattle.wt_pattern.specs.Periods.{IsPeriod};
@@ -21,9 +20,10 @@ ghost use Rattle.wt_chain.specs.Faults.{chain_fault};
 ghost use Rattle.wt_chain.specs.Sets.{AreLinked};
 ghost use Rattle.wt_chain.specs.Turns.{renamed_back, turned_times};
 ghost use Rattle.wt_chain.specs.Good.{GoodLoop};
-ghost use Rattle.wt_scale.specs.Sizes.{magnitude, size_of};
+ghost use Rattle.wt_step.specs.Carried.{magnitude};
+ghost use Rattle.wt_scale.specs.Sizes.{size_of};
 ghost use Rattle.wt_scale.specs.Vectors.{digits, size_result};
-ghost use Rattle.wt_scale.specs.Scales.{IsCarried, Lowered, side_below};
+ghost use Rattle.wt_scale.specs.Scales.{Lowered, side_below};
 ghost use Rattle.wt_scale.specs.Existence.{ValidImage, SameSized, TwiceSized, IsPatternOf, HasPattern};
 ghost use Rattle.wt_scale.specs.Pick.{power_for, pick};
 
@@ -33,15 +33,6 @@ pub fn images_are_valid()
     ensures { (s : RawStep) → first_fault s ≡ None → (q : Grid) → IsPattern s.coarse.tiles q
         → IsPattern s.fine.tiles (image_grid (grid_axis s.axis) (pieces s) q)
         × IsImage (pieces s) (lines (grid_axis s.axis) q) (lines (grid_axis s.axis) (image_grid (grid_axis s.axis) (pieces s) q)) }
-{}
-
-/// A period of a valid pattern is a period of the coarse pattern that a good marker step makes of it, where
-/// the core has three lines more along the axis than the period, and one more across. The period's part
-/// along the axis is counted in blocks instead of lines.
-pub fn periods_are_carried()
-    ensures { (s : RawStep) → first_fault s ≡ None → (p q : Grid) → IsPattern s.fine.tiles p → IsGrid q → IsCoarse s p q
-        → (opposed : Bool) (d e : ℕ) → d + 3 ≤ along (grid_axis s.axis) (core s.radius p) → e < across (grid_axis s.axis) (core s.radius p)
-        → HasVector (grid_axis s.axis) opposed d e p → (n : ℕ) × IsCarried s opposed d e n q }
 {}
 
 /// A valid pattern with a period has, by a good step of either kind, a valid coarse pattern with a period:

@@ -6,7 +6,7 @@ mod size;
 
 pub use laws::{
     digits_are_least, every_size_has_a_pattern, images_are_valid, large_patterns_have_no_period,
-    least_powers, link_images_are_valid, patterns_are_lowered, periods_are_carried,
-    picks_are_valid, renamed_patterns_are_valid, sizes_exclude_periods, turns_double_patterns,
+    least_powers, link_images_are_valid, patterns_are_lowered, picks_are_valid,
+    renamed_patterns_are_valid, sizes_exclude_periods, turns_double_patterns,
 };
 pub use size::{SizeFault, size_for};

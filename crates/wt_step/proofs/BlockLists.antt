@@ -39,3 +39,18 @@ module _ (pairs : ℕ → Bool) (xs whole : List Block) (i end : ℕ) (lt : i < 
       let P : Bool → Type 0 = λ d. (xs ++ (record { line = i; double = d } ∷ [])) ++ blocks_in pairs d (i + 1) (end - (i + 1)) ≡ whole in
       subst P (sym f) (append_assoc xs (record { line = i; double = D } ∷ []) (blocks_in pairs D (i + 1) (end - (i + 1)))
       ∙ (ap (λ (ys : List Block). xs ++ ys) (sym (blocks_begin pairs i end lt)) ∙ (ap (λ (b : Bool). xs ++ blocks_in pairs b i (end - i)) (sym e) ∙ h)))
+
+-- The same for their number.
+module _ (pairs : ℕ → Bool) (n whole i end : ℕ) (lt : i < end) where
+  pub count_inside : (b : Bool) → b ≡ true → n + length (blocks_in pairs b i (end - i)) ≡ whole → n + length (blocks_in pairs false (i + 1) (end - (i + 1))) ≡ whole
+  count_inside b e h = ap (λ (ys : List Block). n + length ys) (sym (blocks_inside pairs i end lt)) ∙ (ap (λ (b : Bool). n + length (blocks_in pairs b i (end - i))) (sym e) ∙ h)
+
+  pub count_begin : (b d : Bool) → b ≡ false → d ≡ (nat_lt 1 (end - i) && pairs i) → n + length (blocks_in pairs b i (end - i)) ≡ whole → (n + 1) + length (blocks_in pairs d (i + 1) (end - (i + 1))) ≡ whole
+  count_begin b d e f h =
+      let D = nat_lt 1 (end - i) && pairs i in
+      let l : length (blocks_in pairs false i (end - i)) ≡ suc (length (blocks_in pairs D (i + 1) (end - (i + 1)))) = ap length (blocks_begin pairs i end lt) in
+      let k : n + length (blocks_in pairs false i (end - i)) ≡ whole = ap (λ (b : Bool). n + length (blocks_in pairs b i (end - i))) (sym e) ∙ h in
+      subst (λ (x : Bool). (n + 1) + length (blocks_in pairs x (i + 1) (end - (i + 1))) ≡ whole) (sym f) (omega arith)
+
+  pub count_room : (b : Bool) → b ≡ false → n + length (blocks_in pairs b i (end - i)) ≡ whole → n + 1 ≤ whole
+  count_room b e h = let k = count_begin b (nat_lt 1 (end - i) && pairs i) e refl h in omega arith

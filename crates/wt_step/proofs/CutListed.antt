@@ -16,7 +16,7 @@ abbrev pub behind : {A : Type 0} → Bool → (ℕ → A) → ℕ → A
 behind true f k = f (suc k)
 behind false f k = f k
 
-same_count : {A : Type 0} (n m : ℕ) (f : ℕ → A) → n ≡ m → listed n f ≡ listed m f
+pub same_count : {A : Type 0} (n m : ℕ) (f : ℕ → A) → n ≡ m → listed n f ≡ listed m f
 same_count n m f e = ap (λ (k : ℕ). listed k f) e
 
 module _ (marker : ℕ → Bool) where

@@ -23,7 +23,8 @@ use Rattle.wt_morphism.specs.declared.image.Image.{Image}
 use Rattle.wt_morphism.specs.declared.image.Image.TheVariants.{One as Single, Two as Double}
 use Rattle.wt_step.specs.Words.{allows, is_marker, image_at, image_fits, images_match, first_tile, last_tile, pieces_match}
 use Rattle.wt_step.specs.Good.{GoodStep}
-use Rattle.wt_step.specs.Meaning.{line_side, allowing, piece, pieces, IsCoarse}
+use Rattle.wt_morphism.specs.Images.{piece}
+use Rattle.wt_step.specs.Meaning.{line_side, allowing, pieces, IsCoarse}
 use Rattle.wt_tile.specs.Matching.{grid_axis, tile_axis, matching}
 use Rattle.wt_pattern.specs.Patterns.{IsPattern}
 use Rattle.wt_step.proofs.Tables.{good_table, some_of, same_itself, not_other}

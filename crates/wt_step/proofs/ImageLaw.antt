@@ -21,7 +21,8 @@ use Rattle.wt_step.specs.declared.raw.RawStep.{RawStep}
 use Rattle.wt_step.specs.Words.{allows, is_block, image_at, image_fits, images_match, first_tile, last_tile, pieces_match, times}
 use Rattle.wt_step.specs.Faults.{is_good_image}
 use Rattle.wt_step.specs.Good.{GoodStep}
-use Rattle.wt_step.specs.Meaning.{piece, pieces}
+use Rattle.wt_morphism.specs.Images.{piece}
+use Rattle.wt_step.specs.Meaning.{pieces}
 use Rattle.wt_step.proofs.Tables.{same_itself, not_other, in_range}
 use Rattle.wt_step.proofs.Desubstitution.{tile_grid, tile_other, count_images}
 

@@ -104,7 +104,7 @@ module _ (s : RawStep) (g : GoodStep s) (p : Grid) where
         ∙ same_cut (suc (suc (n - 2))) n (is_marker_line (is_marker s) (F 0)) (is_marked_line s p 0) (is_marker_line (is_marker s) (F (suc (n - 2)))) (is_marked_line s p (n - 1))
         (sym e) (flag_same 0 (omega arith)) (flag_same (suc (n - 2)) (omega arith) ∙ ap (is_marked_line s p) last))
 
-    the_reads : (qs : List (List ℕ)) → IsImage (pieces s) qs (cut (line_side s.side) (is_marker s) (lines (grid_axis s.axis) (core s.radius p)))
+    pub the_reads : (qs : List (List ℕ)) → IsImage (pieces s) qs (cut (line_side s.side) (is_marker s) (lines (grid_axis s.axis) (core s.radius p)))
         → Reads (pieces s) (λ i. listed (suc m) (core_at s p i)) (blocks_in (pairs_at s p) false (one_if low) (n - (one_if low + one_if high))) qs
     the_reads qs i =
         reads s g (λ i. core_at s p i 0) (λ i. listed m (λ j. core_at s p i (suc j))) (n - (one_if low + one_if high)) (one_if low) (behind low F)

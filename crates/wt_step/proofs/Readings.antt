@@ -11,7 +11,8 @@ use Rattle.wt_step.specs.declared.raw.RawStep.{RawStep}
 use Rattle.wt_step.specs.declared.blocks.Block.{Block}
 use Rattle.wt_step.specs.Words.{is_marker, joined}
 use Rattle.wt_step.specs.Good.{GoodStep}
-use Rattle.wt_step.specs.Meaning.{piece, pieces}
+use Rattle.wt_morphism.specs.Images.{piece}
+use Rattle.wt_step.specs.Meaning.{pieces}
 use Rattle.wt_step.specs.Blocks.{core_at, blocks_in, block_tile, block_at, IsIndexed}
 use Rattle.wt_step.proofs.Tables.{singles, doubles, from_piece, from_pieces, some_of}
 

@@ -16,11 +16,12 @@ use Rattle.wt_grid.proofs.Law.{unflipped, flipped}
 use Rattle.wt_step.specs.declared.raw.RawStep.{RawStep}
 use Rattle.wt_morphism.specs.declared.image.Image.{Image}
 use Rattle.wt_morphism.specs.declared.image.Image.TheVariants.{One as Single, Two as Double}
-use Rattle.wt_step.specs.Words.{pair_fits, pairs_follow, same_image, allowed, allows, is_marker, is_block, joined, demands}
-use Rattle.wt_grid.specs.Pairs.{is_pair}
+use Rattle.wt_step.specs.Words.{same_image, allowed, allows, is_marker, is_block, joined, demands}
+use Rattle.wt_grid.specs.Pairs.{is_pair, pairs_follow, pair_fits}
 use Rattle.wt_step.specs.Faults.{is_good_image, is_demanded}
 use Rattle.wt_step.specs.Good.{GoodStep}
-use Rattle.wt_step.specs.Meaning.{piece, pieces, line_side}
+use Rattle.wt_morphism.specs.Images.{piece}
+use Rattle.wt_step.specs.Meaning.{pieces, line_side}
 use Rattle.wt_step.proofs.Goodness.{agreed, not_true, is_pair_same}
 
 pub same_itself : (axis : Axis) → same_axis axis axis ≡ true

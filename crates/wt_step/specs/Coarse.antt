@@ -1,8 +1,8 @@
 -- What desubstitution answers for a step of either kind.
-use Rattle.std.specs.Prelude.{ℕ, ◌-◌, Bool, false, ◌&&◌, not, nat_le, Option, Some, option_map, if◌then◌else◌, None}
+use Rattle.std.specs.Prelude.{ℕ, ◌-◌, List, [], ◌∷◌, Bool, true, false, ◌&&◌, not, nat_le, Option, Some, option_map, if◌then◌else◌, None}
 use Rattle.wt_tile.specs.Matching.{grid_axis}
 use Rattle.wt_grid.specs.First.{or_else}
-use Rattle.wt_grid.specs.Grid.{Grid, along, across, at}
+use Rattle.wt_grid.specs.Grid.{Grid, along, across, at, listed}
 use Rattle.wt_grid.specs.Parts.{core}
 use Rattle.wt_pattern.specs.Validity.{first_fault}
 use Rattle.wt_step.specs.declared.raw.RawStep.{RawStep}
@@ -37,6 +37,15 @@ cuts_low (Restrict s) p = false
 abbrev pub cuts_high : RawLink → Grid → Bool
 cuts_high (Marker s) p = not (ends_block s.side (is_marked s p (along (grid_axis s.axis) (core s.radius p) - 1)))
 cuts_high (Restrict s) p = false
+
+-- line i of the core
+abbrev pub core_line : RawStep → Grid → ℕ → List ℕ
+core_line s p i = listed (across (grid_axis s.axis) (core s.radius p)) (λ j. at (grid_axis s.axis) (core s.radius p) i j)
+
+-- a line, where it is cut
+abbrev pub cut_line : Bool → List ℕ → List (List ℕ)
+cut_line true line = line ∷ []
+cut_line false line = []
 
 -- why a pattern isn't taken apart: it isn't valid, then its core is too small
 abbrev pub desub_fault : RawLink → Grid → Option DesubFault

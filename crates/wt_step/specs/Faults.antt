@@ -11,8 +11,9 @@ use Rattle.wt_morphism.specs.declared.image.Image.{Image}
 use Rattle.wt_morphism.specs.declared.image.Image.TheVariants.{One as Single, Two as Double}
 use Rattle.wt_step.specs.declared.raw.StepFault.{StepFault}
 use Rattle.wt_step.specs.declared.raw.StepFault.TheVariants.{Radius, Fine, Coarse, Markers, Allowed, RefutedList, Images, Pair, Node, Marker, Image as BadImage, MissingTile, MissingPair, Join}
-use Rattle.wt_step.specs.Words.{pairs_follow, pair_fits, entry_fits, image_fits, same_image, allowed, allows, is_marker, is_barred, entry_at, times, is_block, demands, image_at, images_match}
+use Rattle.wt_step.specs.Words.{entry_fits, image_fits, same_image, allowed, allows, is_marker, is_barred, entry_at, times, is_block, demands, image_at, images_match}
 use Rattle.wt_refute.specs.Entries.{entries_follow}
+use Rattle.wt_grid.specs.Pairs.{pairs_follow, pair_fits}
 use Rattle.wt_grid.specs.First.{or_else, first_from}
 use Rattle.wt_grid.specs.Order.{in_order, all_of, has, first_in, is_below, follows, agree}
 

@@ -8,3 +8,4 @@ pub mod Blocks
 pub mod Coarse
 pub mod Views
 pub mod Meaning
+pub mod Carried

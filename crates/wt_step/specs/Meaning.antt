@@ -5,10 +5,11 @@ use Rattle.wt_tile.specs.declared.tile.Side.TheVariants.{After, Before}
 use Rattle.wt_tile.specs.Matching.{grid_axis, tile_axis}
 use Rattle.wt_step.specs.declared.raw.RawStep.{RawStep}
 use Rattle.wt_step.specs.declared.raw.RawRestrict.{RawRestrict}
-use Rattle.wt_morphism.specs.declared.image.Image.{Image}
-use Rattle.wt_morphism.specs.declared.image.Image.TheVariants.{One as Single, Two as Double}
+use Rattle.wt_step.specs.declared.raw.RawLink.{RawLink}
+use Rattle.wt_step.specs.declared.raw.RawLink.TheVariants.{Marker, Restrict}
+use Rattle.wt_morphism.specs.Images.{piece}
 use Rattle.wt_step.specs.Words.{allows, is_marker}
-use Rattle.wt_grid.specs.Lines.{Piece, one, two, IsImage}
+use Rattle.wt_grid.specs.Lines.{Piece, one, IsImage}
 use Rattle.wt_grid.specs.Grid.{Grid, lines}
 use Rattle.wt_grid.specs.Grid.{Axis as GridAxis, one as first_axis}
 use Rattle.wt_grid.specs.Cuts.{cut, after, before}
@@ -21,10 +22,6 @@ line_side Before = before
 
 abbrev pub allowing : RawStep → GridAxis → ℕ → ℕ → Bool
 allowing s axis = allows s (tile_axis axis)
-
-abbrev pub piece : Image → Piece
-piece (Single a) = one a
-piece (Double a b) = two a b
 
 abbrev pub pieces : RawStep → List Piece
 pieces s = map piece s.images
@@ -46,3 +43,8 @@ kept_pieces s = map one s.kept
 -- the coarse rectangle q has the whole core of g as its image
 abbrev pub IsKept : RawRestrict → Grid → Grid → Type 0
 IsKept s g q = IsImage (kept_pieces s) (lines first_axis q) (lines first_axis (core s.radius g))
+
+-- what each coarse tile of a step of either kind stands for
+abbrev pub pieces_of : RawLink → List Piece
+pieces_of (Marker s) = pieces s
+pieces_of (Restrict s) = kept_pieces s

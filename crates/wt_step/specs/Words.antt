@@ -11,17 +11,9 @@ use Rattle.wt_step.specs.declared.raw.RawStep.{RawStep}
 use Rattle.wt_morphism.specs.declared.image.Image.{Image}
 use Rattle.wt_morphism.specs.declared.image.Image.TheVariants.{One as Single, Two as Double}
 use Rattle.wt_refute.specs.Entries.{is_entry}
-use Rattle.wt_grid.specs.Pairs.{pair_before, is_pair}
+use Rattle.wt_grid.specs.Pairs.{is_pair}
 use Rattle.wt_grid.specs.Order.{has, find}
 use Rattle.wt_grid.specs.First.{count_from}
-
--- Pairs of tiles, by the first and then by the second.
-
-abbrev pub pairs_follow : ℕ × ℕ → ℕ × ℕ → Bool
-pairs_follow p q = pair_before q.0 q.1 p
-
-abbrev pub pair_fits : ℕ → ℕ × ℕ → Bool
-pair_fits n p = nat_lt p.0 n && nat_lt p.1 n
 
 -- Refutations.
 

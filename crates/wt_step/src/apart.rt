@@ -48,14 +48,14 @@ fn ends_block(side: Side, marked: bool) -> bool
 }
 
 /// Whether line i of the core ends a block.
-fn ends_at(raw: &RawStep, p: &Pattern, i: usize) -> bool
+pub fn ends_at(raw: &RawStep, p: &Pattern, i: usize) -> bool
     requires { i < 16777217 }
     ensures { result ≡ ends_of raw.now p.now i }
 {
     ends_block(raw.side, is_marked_line(raw, p, i))
 }
 
-fn one_if(cut: bool) -> u16
+pub fn one_if(cut: bool) -> u16
     ensures value { result ≡ lines_of cut }
     ensures small { result ≤ 1 }
 {

@@ -1,5 +1,5 @@
 // The blocks of a pattern's core: one or two lines that stand for one coarse line.
-ghost use Rattle.std.specs.Prelude.{◌≡◌, ◌≤◌, ◌<◌, ◌-◌, ◌&&◌, nat_lt, false, IfOk};
+ghost use Rattle.std.specs.Prelude.{◌≡◌, ◌≤◌, ◌<◌, ◌-◌, ◌&&◌, nat_lt, false, length, IfOk};
 ghost use Rattle.wt_tile.specs.Matching.{grid_axis};
 ghost use Rattle.wt_grid.specs.Grid.{along, across};
 ghost use Rattle.wt_pattern.specs.Shape.{IsShape};
@@ -91,6 +91,23 @@ fn is_double(raw: &RawStep, p: &Pattern, line: u16, end: u16) -> bool
     ensures { result ≡ (nat_lt 1 (end - line) && pairs_of raw.now p.now line) }
 {
     end - line > 1 && pairs_at(raw, p, usize::from(line))
+}
+
+/// How many blocks begin in the lines from one up to another.
+pub fn count_blocks(raw: &RawStep, p: &Pattern, from: u16, end: u16) -> u16
+    ensures { result ≡ length (blocks_in (pairs_of raw.now p.now) false from (end - from)) }
+{
+    let mut blocks = 0;
+    let mut inside = false;
+    for line in from..end {
+        if inside {
+            inside = false;
+        } else {
+            inside = is_double(raw, p, line, end);
+            blocks += 1;
+        }
+    }
+    blocks
 }
 
 /// The blocks of the lines from one up to another.

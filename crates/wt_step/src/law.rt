@@ -1,9 +1,10 @@
 // What good steps are, and what they make of valid rectangles.
-ghost use Rattle.std.specs.Prelude.{◌≡◌, ◌<◌, ◌≤◌, ◌++◌, None, true, ℕ, List};
+ghost use Rattle.std.specs.Prelude.{◌≡◌, ◌+◌, ◌-◌, ◌<◌, ◌≤◌, ◌++◌, None, true, ℕ, List, Bool};
 ghost use Rattle.wt_grid.specs.Grid.{Grid, IsGrid, cell, along, across, lines};
 ghost use Rattle.wt_grid.specs.Lines.{IsImage};
 ghost use Rattle.wt_grid.specs.Cuts.{closed, Fills};
 ghost use Rattle.wt_grid.specs.Parts.{core, IsValid};
+ghost use Rattle.wt_grid.specs.Shifts.{HasVector};
 ghost use Rattle.wt_tile.specs.Matching.{grid_axis};
 ghost use Rattle.wt_pattern.specs.Patterns.{IsPattern};
 ghost use Rattle.wt_step.specs.declared.raw.RawStep.{RawStep};
@@ -12,7 +13,10 @@ ghost use Rattle.wt_step.specs.Words.{is_marker};
 ghost use Rattle.wt_step.specs.Faults.{step_fault as first_fault};
 ghost use Rattle.wt_step.specs.Restrict.{restrict_fault as first_restrict_fault, is_kept};
 ghost use Rattle.wt_step.specs.Good.{GoodStep, GoodRestrict};
-ghost use Rattle.wt_step.specs.Meaning.{line_side, allowing, pieces, IsCoarse, IsKept};
+ghost use Rattle.wt_step.specs.Meaning.{line_side, allowing, pieces, cut_core, IsCoarse, IsKept};
+ghost use Rattle.wt_step.specs.declared.raw.RawLink.TheVariants.{Marker};
+ghost use Rattle.wt_step.specs.Coarse.{has_margin, cuts_low, cuts_high, core_line, cut_line};
+ghost use Rattle.wt_step.specs.Carried.{IsCarried};
 
 /// A marker step has no fault exactly where it is good.
 pub fn good_steps()
@@ -48,6 +52,23 @@ pub fn desubstitutes()
         → (front run back : List (List ℕ)) → lines (grid_axis s.axis) (core s.radius p) ≡ front ++ (run ++ back) → IsImage (pieces s) (lines (grid_axis s.axis) r) run
         → (qa : List (List ℕ)) × (qb : List (List ℕ)) × (lines (grid_axis s.axis) q ≡ qa ++ (closed (line_side s.side) (lines (grid_axis s.axis) r) ++ qb))
         × Fills (line_side s.side) (is_marker s) (pieces s) qa qb front back }
+{}
+
+/// The lines of a core are the first line, where it is cut, then the cut core, and then the last line, where
+/// that is cut.
+pub fn cuts_are_the_border_lines()
+    ensures { (s : RawStep) (p : Grid) → has_margin (Marker s) p ≡ true
+        → lines (grid_axis s.axis) (core s.radius p) ≡ cut_line (cuts_low (Marker s) p) (core_line s p 0)
+        ++ (cut_core s p ++ cut_line (cuts_high (Marker s) p) (core_line s p (along (grid_axis s.axis) (core s.radius p) - 1))) }
+{}
+
+/// A period of a valid pattern is a period of the coarse pattern that a good marker step makes of it, where
+/// the core has three lines more along the axis than the period, and one more across. The period's part
+/// along the axis is counted in blocks instead of lines.
+pub fn periods_are_carried()
+    ensures { (s : RawStep) → first_fault s ≡ None → (p q : Grid) → IsPattern s.fine.tiles p → IsGrid q → IsCoarse s p q
+        → (opposed : Bool) (d e : ℕ) → d + 3 ≤ along (grid_axis s.axis) (core s.radius p) → e < across (grid_axis s.axis) (core s.radius p)
+        → HasVector (grid_axis s.axis) opposed d e p → (n : ℕ) × IsCarried s opposed d e n q }
 {}
 
 /// The core of each valid pattern is, for a restrict step, the image of exactly one coarse pattern,

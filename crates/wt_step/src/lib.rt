@@ -5,6 +5,7 @@
 mod apart;
 mod blocks;
 mod borrowed;
+mod carry;
 mod cells;
 mod coarse;
 mod copy;
@@ -21,14 +22,20 @@ mod rules;
 mod search;
 mod shape;
 mod step;
+#[cfg(test)]
+mod tests;
 mod walk;
 
 pub use borrowed::{LinkRef, RestrictRef};
+pub use carry::{carry_period, has_room};
 pub use coarse::{Coarse, DesubFault};
 pub use copy::copy_link;
 pub use desub::desubstitute;
 pub use good::{Step, StepRef, accept_step};
-pub use law::{cores_are_plain, desubstitutes, good_restricts, good_steps, restricts};
+pub use law::{
+    cores_are_plain, cuts_are_the_border_lines, desubstitutes, good_restricts, good_steps,
+    periods_are_carried, restricts,
+};
 pub use link::{Link, accept_link, link_fault};
 pub use raw::{Lost, RawLink, RawRestrict, RawStep, StepFault};
 pub use step::step_fault;

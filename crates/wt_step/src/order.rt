@@ -1,7 +1,7 @@
 // Lists in strict order, and look-ups in them.
 ghost use Rattle.std.specs.Prelude.{◌≡◌, nat_eq};
 ghost use Rattle.wt_grid.specs.Order.{in_order, leads, is_below, has, follows};
-ghost use Rattle.wt_step.specs.Words.{pairs_follow, pair_fits as fits_pair};
+ghost use Rattle.wt_grid.specs.Pairs.{pairs_follow, pair_fits as fits_pair};
 ghost use Rattle.wt_grid.specs.Pairs.{pair_before as before_pair, is_pair as pair_is};
 
 /// Whether numbers ascend and are below a bound.

@@ -1,6 +1,6 @@
 use Rattle.std.proofs.Common.{◌≡◌, length}
 use Rattle.wt_grid.specs.Order.{in_order}
-use Rattle.wt_step.specs.Words.{pairs_follow, pair_fits}
+use Rattle.wt_grid.specs.Pairs.{pairs_follow, pair_fits}
 use Rattle.wt_step.proofs.order.pairs_ascend.Given as goal
 
 abbrev pub invariant-loop-left : goal.invariant-loop-left

@@ -14,7 +14,7 @@ use Rattle.wt_step.specs.declared.raw.RawStep.{RawStep}
 use Rattle.wt_step.specs.Words.{allows, is_marker}
 use Rattle.wt_step.specs.Good.{GoodStep}
 use Rattle.wt_step.specs.Meaning.{line_side, allowing, pieces, IsCoarse}
-use Rattle.wt_scale.specs.Scales.{IsCarried}
+use Rattle.wt_step.specs.Carried.{IsCarried}
 use Rattle.wt_step.proofs.Cores.{core_allowed}
 use Rattle.wt_step.proofs.Tables.{good_table}
 use Rattle.wt_step.proofs.Desubstitution.{tile_grid, tile_other}
@@ -41,4 +41,4 @@ carried s g p q v iq i opposed d e la lc h =
     let k = carried_grid a (line_side s.side) (allowing s) (is_marker s) (pieces s) (the_table s g) c q d (cond opposed e 0) (cond opposed 0 e)
     (core_allowed s g p v.1 v.2) iq i la (lead opposed e (across a c) lc (omega arith)) (lag opposed e (across a c) lc (omega arith))
     (core_repeated a s.radius d (cond opposed e 0) (cond opposed 0 e) p h) in
-    (k.0, record { vector = k.1.repeated; filled = k.1.filled; shorter = k.1.shorter; half = k.1.doubled })
+    (k.0, record { vector = k.1.repeated; filled = k.1.filled; few = k.1.few; shorter = k.1.shorter; half = k.1.doubled })
