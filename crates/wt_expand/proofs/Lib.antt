@@ -2,3 +2,5 @@ pub mod Cut
 pub mod Short
 pub mod Odometer
 pub mod Levels
+pub mod RowImages
+pub mod Through

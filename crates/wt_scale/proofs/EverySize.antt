@@ -25,7 +25,7 @@ use Rattle.wt_scale.proofs.Doubling.{through_valid, doubled_sides}
 use Rattle.wt_scale.proofs.Powers.{enough}
 
 -- one tile alone is a valid pattern
-single_pattern : (ts : List Tile) → 0 < length ts → IsPattern ts (single 0)
+pub single_pattern : (ts : List Tile) → 0 < length ts → IsPattern ts (single 0)
 single_pattern ts some = (record { wide = omega arith; high = omega arith; whole = refl }, below, valid)
   where
     below : AllBelow (length ts) (single 0)
@@ -44,7 +44,7 @@ cut_down ts g w h p some_wide some_high lw lh = record {
 }
 
 -- turns behind turns are as many as both together
-turns_behind : (loop : List RawLink) (list : List ℕ) (a b : ℕ) (g : Grid) → turned_times loop list (a + b) g ≡ turned_times loop list b (turned_times loop list a g)
+pub turns_behind : (loop : List RawLink) (list : List ℕ) (a b : ℕ) (g : Grid) → turned_times loop list (a + b) g ≡ turned_times loop list b (turned_times loop list a g)
 turns_behind loop list zero b g = let z : 0 + b ≡ b = omega arith in ap (λ (n : ℕ). turned_times loop list n g) z
 turns_behind loop list (suc a) b g = let s : suc a + b ≡ suc (a + b) = omega arith in ap (λ (n : ℕ). turned_times loop list n g) s ∙ turns_behind loop list a b (turned loop list g)
 
@@ -53,10 +53,10 @@ grown_more : (loop : List RawLink) (list : List ℕ) (e k : ℕ) → grown loop 
 grown_more loop list e k = let s : suc k * e ≡ k * e + e = omega arith in ap (λ (n : ℕ). turned_times loop list n (single 0)) s ∙ turns_behind loop list (k * e) e (single 0)
 
 -- a valid pattern with sides of at least this length
-record IsLong (ts : List Tile) (side : ℕ) (g : Grid) : Type 0 where
-  pattern : IsPattern ts g
-  wide : side ≤ g.width
-  high : side ≤ g.height
+pub record IsLong (ts : List Tile) (side : ℕ) (g : Grid) : Type 0 where
+  pub pattern : IsPattern ts g
+  pub wide : side ≤ g.width
+  pub high : side ≤ g.height
 
 module _ (l : RawLink) (ls : List RawLink) (linked : AreLinked (fine_of l) (l ∷ ls)) (list : List ℕ) (e : ℕ) (good : GoodLoop (l ∷ ls) list e) where
   -- e turns more double the sides
@@ -72,7 +72,7 @@ module _ (l : RawLink) (ls : List RawLink) (linked : AreLinked (fine_of l) (l �
       }
 
   -- k times e turns make of one tile a pattern of sides of at least 2 to the power k
-  grown_long : (k : ℕ) → IsLong (fine_of l).tiles (2 ^ k) (grown (l ∷ ls) list e k)
+  pub grown_long : (k : ℕ) → IsLong (fine_of l).tiles (2 ^ k) (grown (l ∷ ls) list e k)
   grown_long zero =
       let one : 2 ^ 0 ≡ 1 = refl in
       let none : 0 * e ≡ 0 = omega arith in
