@@ -4,3 +4,4 @@ pub mod Odometer
 pub mod Levels
 pub mod RowImages
 pub mod Through
+pub mod Placed

@@ -1,8 +1,8 @@
 -- One row up or down, level by level.
-use Rattle.std.proofs.Common.{arith, ◌≡◌, ◌≤◌, ◌<◌, ◌+◌, ℕ, zero, suc, Bool, true, false, List, [], ◌∷◌, length, take, get_or, refl, sym, ◌∙◌, ap}
+use Rattle.std.proofs.Common.{arith, ◌≡◌, ◌≤◌, ◌<◌, ◌+◌, ℕ, Bool, true, false, List, [], ◌∷◌, length, take, refl, ◌∙◌, ap}
 use Rattle.std.specs.List.{flat_map}
 use Rattle.wt_expand.specs.Levels.{Level, rows_below}
-use Rattle.wt_expand.specs.Rows.{all_rows, rows_under, Standing, bit, row_number, IsBelow, Fits}
+use Rattle.wt_expand.specs.Rows.{all_rows, rows_under, Standing, bit, row_number, Fits}
 use Rattle.wt_expand.specs.Walks.{has_two, laid, last_laid, AreLower, AreLast}
 use Rattle.wt_expand.proofs.Cut.{count_below}
 use Rattle.wt_expand.proofs.Short.{stands, under_next}

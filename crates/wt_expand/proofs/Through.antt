@@ -1,5 +1,5 @@
 -- The rows of what turns of a loop make of tile 0, and of its images under the steps before the loop.
-use Rattle.std.proofs.Common.{arith, ◌≡◌, ◌≤◌, ◌<◌, ◌+◌, ℕ, zero, suc, List, [], ◌∷◌, ◌++◌, length, take, drop, map, None, true, false, refl, sym, ◌∙◌, ap, subst}
+use Rattle.std.proofs.Common.{arith, ◌≡◌, ℕ, zero, suc, List, [], ◌∷◌, ◌++◌, length, take, drop, map, None, refl, sym, ◌∙◌, ap, subst}
 use Rattle.std.specs.List.{flat_map}
 use Rattle.std.proofs.lemmas.List.Folds.{flat_map-map}
 use Rattle.wt_tile.specs.declared.tile.TileList.{TileList}
@@ -13,7 +13,7 @@ use Rattle.wt_step.specs.Links.{link_fault, fine_of, coarse_of}
 use Rattle.wt_chain.specs.declared.raw.RawChain.{RawChain}
 use Rattle.wt_chain.specs.declared.raw.End.TheVariants.{Loop}
 use Rattle.wt_chain.specs.Growth.{origin}
-use Rattle.wt_chain.specs.Sets.{last_set, AreLinked, IsRun}
+use Rattle.wt_chain.specs.Sets.{last_set, AreLinked}
 use Rattle.wt_chain.specs.Turns.{axis_of, pieces_of, image_under, image_through, renamed_back, turned, turned_times, single}
 use Rattle.wt_chain.specs.Good.{GoodChain, GoodLoop, GoodEnd}
 use Rattle.wt_chain.proofs.Grown.{fine_good}

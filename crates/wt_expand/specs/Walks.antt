@@ -1,5 +1,5 @@
 -- Going from row to row: which rows stand below a row.
-use Rattle.std.specs.Prelude.{◌≡◌, ℕ, Bool, true, false, List, [], ◌∷◌, take, slice_index_or}
+use Rattle.std.specs.Prelude.{◌≡◌, ℕ, Bool, false, List, [], ◌∷◌, take, slice_index_or}
 use Rattle.wt_grid.specs.Grid.{Axis}
 use Rattle.wt_grid.specs.Grid.{one as first_axis, two as second_axis}
 use Rattle.wt_grid.specs.Lines.{Piece}

@@ -2,3 +2,5 @@
 #![tactic(auto)]
 
 mod laws;
+
+pub use laws::{rows_of_images, rows_of_picks, short_rows_are_rows};

@@ -44,7 +44,7 @@ cut_down ts g w h p some_wide some_high lw lh = record {
 }
 
 -- turns behind turns are as many as both together
-pub turns_behind : (loop : List RawLink) (list : List ℕ) (a b : ℕ) (g : Grid) → turned_times loop list (a + b) g ≡ turned_times loop list b (turned_times loop list a g)
+turns_behind : (loop : List RawLink) (list : List ℕ) (a b : ℕ) (g : Grid) → turned_times loop list (a + b) g ≡ turned_times loop list b (turned_times loop list a g)
 turns_behind loop list zero b g = let z : 0 + b ≡ b = omega arith in ap (λ (n : ℕ). turned_times loop list n g) z
 turns_behind loop list (suc a) b g = let s : suc a + b ≡ suc (a + b) = omega arith in ap (λ (n : ℕ). turned_times loop list n g) s ∙ turns_behind loop list a b (turned loop list g)
 
@@ -72,7 +72,7 @@ module _ (l : RawLink) (ls : List RawLink) (linked : AreLinked (fine_of l) (l �
       }
 
   -- k times e turns make of one tile a pattern of sides of at least 2 to the power k
-  pub grown_long : (k : ℕ) → IsLong (fine_of l).tiles (2 ^ k) (grown (l ∷ ls) list e k)
+  grown_long : (k : ℕ) → IsLong (fine_of l).tiles (2 ^ k) (grown (l ∷ ls) list e k)
   grown_long zero =
       let one : 2 ^ 0 ≡ 1 = refl in
       let none : 0 * e ≡ 0 = omega arith in
@@ -86,24 +86,31 @@ module _ (l : RawLink) (ls : List RawLink) (linked : AreLinked (fine_of l) (l �
       let s = subst (λ (n : ℕ). IsLong (fine_of l).tiles n (turned_times (l ∷ ls) list e (grown (l ∷ ls) list e k))) (sym (doubled k)) r in
       subst (λ (g : Grid). IsLong (fine_of l).tiles (2 ^ suc k) g) (sym (grown_more (l ∷ ls) list e k)) s
 
--- images under the steps before the loop are no smaller
-from_start : (first : RawLink) (rest : List RawLink) → AreLinked (fine_of first) (first ∷ rest) → (start : ℕ) (list : List ℕ) (e : ℕ) (loop : List RawLink) → drop start (first ∷ rest) ≡ loop → GoodLoop loop list e
-    → (w h : ℕ) → 1 ≤ w → 1 ≤ h → IsPatternOf (fine_of first).tiles w h (lower_left w h (image_through (take start (first ∷ rest)) (grown loop list e (power_for (max w h)))))
-from_start first rest linked start list e [] same good w h some_wide some_high = absurd good
-from_start first rest linked start list e (l ∷ ls) same good w h some_wide some_high =
+-- Images under the steps before the loop are no smaller: for each n, turns for the power of n come to sides of at least n.
+pub long_from_start : (first : RawLink) (rest : List RawLink) → AreLinked (fine_of first) (first ∷ rest) → (start : ℕ) (list : List ℕ) (e : ℕ) (loop : List RawLink) → drop start (first ∷ rest) ≡ loop → GoodLoop loop list e
+    → (n : ℕ) → IsLong (fine_of first).tiles n (image_through (take start (first ∷ rest)) (grown loop list e (power_for n)))
+long_from_start first rest linked start list e [] same good n = absurd good
+long_from_start first rest linked start list e (l ∷ ls) same good n =
     let prefix = take start (first ∷ rest) in
     let set = fine_of first in
     let whole = subst (λ (ys : List RawLink). AreLinked set ys) (sym (split_steps first rest (l ∷ ls) start same)) linked in
     let two = linked_apart set prefix (l ∷ ls) whole in
     let own = run_linked (last_set set prefix) (l ∷ ls) two.1 l ls refl in
-    let k = power_for (max w h) in
+    let k = power_for n in
     let g = grown_long l ls own.0 list e good k in
     let t = through_valid prefix set two.0 (grown (l ∷ ls) list e k) (subst (λ (x : TileList). IsPattern x.tiles (grown (l ∷ ls) list e k)) own.1 g.pattern) in
-    let b = enough (max w h) in
-    let mw = le-max_left w h in let mh = le-max_right w h in
+    let b = enough n in
     let gw = g.wide in let gh = g.high in
     let tw = t.wide in let th = t.high in
-    cut_down set.tiles (image_through prefix (grown (l ∷ ls) list e k)) w h t.pattern some_wide some_high (omega (arith, b, mw, gw, tw)) (omega (arith, b, mh, gh, th))
+    record { pattern = t.pattern; wide = omega (arith, b, gw, tw); high = omega (arith, b, gh, th) }
+
+from_start : (first : RawLink) (rest : List RawLink) → AreLinked (fine_of first) (first ∷ rest) → (start : ℕ) (list : List ℕ) (e : ℕ) (loop : List RawLink) → drop start (first ∷ rest) ≡ loop → GoodLoop loop list e
+    → (w h : ℕ) → 1 ≤ w → 1 ≤ h → IsPatternOf (fine_of first).tiles w h (lower_left w h (image_through (take start (first ∷ rest)) (grown loop list e (power_for (max w h)))))
+from_start first rest linked start list e loop same good w h some_wide some_high =
+    let g = long_from_start first rest linked start list e loop same good (max w h) in
+    let mw = le-max_left w h in let mh = le-max_right w h in
+    let gw = g.wide in let gh = g.high in
+    cut_down (fine_of first).tiles (image_through (take start (first ∷ rest)) (grown loop list e (power_for (max w h)))) w h g.pattern some_wide some_high (omega (arith, mw, gw)) (omega (arith, mh, gh))
 
 -- Each pick is a valid pattern over the first set, of its size.
 pub valid_pick : (c : RawChain) → GoodChain c → (start e : ℕ) (list : List ℕ) → c.end ≡ Loop start list e → (first : RawLink) (rest : List RawLink) → c.steps ≡ first ∷ rest
