@@ -17,8 +17,8 @@ pub fn rows_of_images()
         → lines two (image_through (take start c.steps) (turned_times (drop start c.steps) list turns (single 0))) ≡ all_rows list (levels_of c.steps start turns) }
 {}
 
-/// A row that stands for one row or two depends on no more of them than it keeps: standing rows, each kept w
-/// cells, are the rows of their numbers, w cells of each.
+/// The first w tiles of a row tell the first w cells of each row that it stands for. So rows that stand below
+/// one another, each kept w cells, are the rows of their numbers, w cells of each.
 pub fn short_rows_are_rows()
     ensures { (w : ℕ) → 1 ≤ w → (renaming : List ℕ) (levels : List Level) (s : Standing) (ss : List Standing) → Fits w renaming levels (s ∷ ss)
         → (row_number renaming levels (s ∷ ss) < length (all_rows renaming levels))
