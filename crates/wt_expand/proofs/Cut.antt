@@ -8,7 +8,8 @@ use Rattle.wt_grid.specs.Lines.{Piece, one, two}
 use Rattle.wt_grid.specs.Images.{piece_at, first_tile, last_tile, firsts, lasts, is_double, line_image}
 use Rattle.wt_grid.specs.Traces.{piece_tiles}
 use Rattle.wt_chain.specs.Growth.{origin}
-use Rattle.wt_chain.specs.Turns.{axis_of, pieces_of}
+use Rattle.wt_step.specs.Meaning.{pieces_of}
+use Rattle.wt_chain.specs.Turns.{axis_of}
 use Rattle.wt_expand.specs.Levels.{Level, named_row, laid_rows, rows_below}
 use Rattle.wt_expand.specs.Rows.{bit}
 use Rattle.wt_expand.specs.Walks.{lays_two, has_two}
