@@ -179,7 +179,8 @@ fn reads_and_writes_a_set(rt: HostRuntime) -> Result<(), Fail> {
     let Ok(list) = read_set(rt.alloc(), text, 4) else {
         return Err(Fail::new("a set of four tiles is not read"));
     };
-    assert_eq!(rt; list.names2.as_slice()[2].bytes(), b"BC".as_slice());
+    let name = list.names2.as_slice().get(2).ok_or("names")?;
+    assert_eq!(rt; name.bytes(), b"BC".as_slice());
     let Ok(set) = SetRef::new(&list) else {
         return Err(Fail::new("a set of four tiles is none"));
     };

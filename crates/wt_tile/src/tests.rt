@@ -155,12 +155,12 @@ fn numbers_pairs_of_colours(rt: HostRuntime) -> Result<(), Fail> {
 fn edge_text(alloc: Global, names: &[&str], edge: Edge) -> Result<String, Fail> {
     let mut text = String::new(alloc);
     match edge {
-        Edge::One(a) => text.push_str(names[usize::from(a)])?,
+        Edge::One(a) => text.push_str(names.get(usize::from(a)).ok_or("name")?)?,
         Edge::Two(a, b) => {
             text.push('(')?;
-            text.push_str(names[usize::from(a)])?;
+            text.push_str(names.get(usize::from(a)).ok_or("name")?)?;
             text.push(',')?;
-            text.push_str(names[usize::from(b)])?;
+            text.push_str(names.get(usize::from(b)).ok_or("name")?)?;
             text.push(')')?;
         }
     }
