@@ -1,0 +1,4 @@
+//! Valid patterns of every size, made row by row.
+#![tactic(auto)]
+
+mod laws;
