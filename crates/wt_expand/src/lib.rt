@@ -2,3 +2,6 @@
 #![tactic(auto)]
 
 mod laws;
+mod turning;
+
+pub use turning::{TurnFault, turn};
