@@ -1,8 +1,10 @@
 -- What one turn of a loop makes of a tile: how large it is, and that each image on the way is made.
-use Rattle.std.proofs.Common.{arith, ◌≡◌, ◌<◌, ◌≤◌, ◌+◌, ◌*◌, ◌-◌, ℕ, zero, suc, List, [], ◌∷◌, ◌++◌, length, take, drop, get_or, map, min, Bool, true, false, if◌then◌else◌, nat_lt, Option, None, Some, Result, Ok, Err, IfOk, MatchResult, refl, sym, ◌∙◌, ap, subst}
+use Rattle.std.proofs.Common.{arith, ◌≡◌, ◌<◌, ◌≤◌, ◌+◌, ◌*◌, ◌-◌, ℕ, zero, suc, List, [], ◌∷◌, length, take, drop, get_or, slice_index_or, map, min, replicate, Bool, true, false, if◌then◌else◌, nat_lt, nat_eq, Option, None, Some, Result, Ok, Err, IfOk, MatchResult, refl, sym, ◌∙◌, ap, subst}
 use Rattle.std.proofs.lemmas.Bool.Decides.{nat_tests}
 use Rattle.std.proofs.lemmas.List.{take_all}
+use Rattle.std.proofs.lemmas.List.FromFn.{get_or-map-range_with_len}
 use Rattle.wt_tile.specs.declared.tile.Tile.{Tile}
+use Rattle.wt_tile.specs.declared.tile.TileList.{TileList}
 use Rattle.wt_tile.specs.declared.tile.Axis.{Axis}
 use Rattle.wt_tile.specs.declared.tile.Axis.TheVariants.{One, Two}
 use Rattle.wt_tile.specs.Matching.{grid_axis, matching}
@@ -23,68 +25,90 @@ use Rattle.wt_morphism.specs.declared.fault.ApplyFault.{ApplyFault}
 use Rattle.wt_morphism.specs.declared.fault.ApplyFault.TheVariants.{OutOfMemory}
 use Rattle.wt_morphism.specs.Images.{piece, pieces, image, uneven, apply_fault, IsRefusal}
 use Rattle.wt_morphism.proofs.Evenness.{uneven_even}
+use Rattle.wt_grid.specs.Order.{all_of}
+use Rattle.wt_grid.proofs.Order.{both}
 use Rattle.wt_step.specs.declared.raw.RawLink.{RawLink}
+use Rattle.wt_step.specs.declared.raw.RawLink.TheVariants.{Marker, Restrict}
+use Rattle.wt_step.specs.Words.{image_fits}
+use Rattle.wt_step.proofs.Goodness.{good_step}
 use Rattle.wt_step.specs.Links.{link_fault, fine_of, coarse_of}
 use Rattle.wt_chain.specs.declared.raw.RawChain.{RawChain}
 use Rattle.wt_chain.specs.declared.raw.End.{End}
 use Rattle.wt_chain.specs.declared.raw.End.TheVariants.{Loop}
 use Rattle.wt_chain.specs.Faults.{chain_fault}
 use Rattle.wt_chain.specs.Good.{GoodLoop, GoodEnd}
-use Rattle.wt_chain.specs.Sets.{last_set, first_count, IsRun}
+use Rattle.wt_chain.specs.Sets.{AreLinked, last_set, first_count, IsRun}
 use Rattle.wt_chain.specs.Growth.{image_of, is_along, tiles_of, first_of, stage, stages, origin}
 use Rattle.wt_chain.specs.Turns.{axis_of, pieces_of, image_under, image_through, renamed_back, single}
 use Rattle.wt_chain.proofs.Goodness.{good}
-use Rattle.wt_chain.proofs.Grown.{fine_good}
+use Rattle.wt_chain.proofs.Grown.{first_fits, fine_good, coarse_good}
 use Rattle.wt_chain.proofs.Run.{run_drop}
 use Rattle.wt_chain.proofs.Turned.{wide, high}
 use Rattle.wt_scale.proofs.LinkImages.{link_image, no_smaller}
 use Rattle.wt_scale.proofs.Doubling.{through_valid}
 use Rattle.wt_scale.proofs.RenamedBack.{renamed_back_valid}
 use Rattle.wt_expand.specs.declared.turning.TurnFault.TheVariants.{Width, Height}
+use Rattle.wt_expand.specs.Sides.{entry, side_by, side_at, next_sides, all_sides}
 use Rattle.wt_expand.specs.Turn.{sides_fault, turned_tile, IsAbove}
 
 -- ---- how long an image is along an axis
 
--- the last step's images come first
-stages_last : (axis : Axis) (links : List RawLink) (link : RawLink) (left : List Stage) → stages axis (links ++ link ∷ []) left ≡ stage axis link ∷ stages axis links left
-stages_last axis [] link left = refl
-stages_last axis (l ∷ ls) link left = stages_last axis ls link (stage axis l ∷ left)
+-- the table tells for n tiles how wide these stages make them
+abbrev Tells : ℕ → List ℕ → List Stage → Type 0
+Tells n sides left = (t : ℕ) → t < n → entry sides t ≡ min (width left t) 65535
 
-abbrev stage_width : Bool → List Stage → Image → ℕ
-stage_width along left image = if along then total (width left) (tiles_of image) else width left (first_of image)
+each_fits : (n : ℕ) (images : List Image) (t : ℕ) → all_of (image_fits n) images ≡ true → t < length images → image_fits n (slice_index_or images t (Single 0)) ≡ true
+each_fits n [] t e lt = absurd (omega arith)
+each_fits n (x ∷ xs) zero e lt = (both (image_fits n x) (all_of (image_fits n) xs) e).0
+each_fits n (x ∷ xs) (suc t) e lt = each_fits n xs t (both (image_fits n x) (all_of (image_fits n) xs) e).1 (omega arith)
 
-width_last : (axis : Axis) (before links : List RawLink) (link : RawLink) (t : ℕ) → links ≡ before ++ link ∷ []
-    → width (stages axis links []) t ≡ stage_width (is_along axis link) (stages axis before []) (image_of link t)
-width_last axis before links link t e =
-    ap (λ (ls : List RawLink). width (stages axis ls []) t) e ∙ ap (λ (ss : List Stage). width ss t) (stages_last axis before link [])
+fits_second : (n a b : ℕ) → image_fits n (Double a b) ≡ true → b < n
+fits_second n a b e = let h = (both (nat_lt a n) (nat_lt b n) e).1 in grind (arith, nat_tests, h)
 
-of_one : (along : Bool) (left : List Stage) (a : ℕ) → stage_width along left (Single a) ≡ width left a
-of_one true left a = omega arith
-of_one false left a = refl
+-- the second tile of an image is a fine tile, as the first is
+second_fits : (link : RawLink) → link_fault link ≡ None → (t a b : ℕ) → t < length (coarse_of link).tiles → image_of link t ≡ Double a b → b < length (fine_of link).tiles
+unfolding link_fault
+second_fits (Marker s) e t a b lt i =
+    let h = both (nat_eq (length s.images) (length s.coarse.tiles)) (all_of (image_fits (length s.fine.tiles)) s.images) (good_step s e).shaped.images in
+    let n : length s.images ≡ length s.coarse.tiles = grind (arith, nat_tests, h.0) in
+    fits_second (length s.fine.tiles) a b (subst (λ (x : Image). image_fits (length s.fine.tiles) x ≡ true) i (each_fits (length s.fine.tiles) s.images t h.1 (omega arith)))
+second_fits (Restrict s) e t a b lt i = absurd cc
 
--- the image of a tile that stands for one
-pub one_side : (axis : Axis) (before links : List RawLink) (link : RawLink) (t a most side : ℕ) → links ≡ before ++ link ∷ [] → Single a ≡ image_of link t
-    → side ≡ min most (width (stages axis before []) a) → side ≡ min most (width (stages axis links []) t)
-one_side axis before links link t a most side e i s =
-    s ∙ ap (min most) (sym (width_last axis before links link t e ∙ (ap (stage_width (is_along axis link) (stages axis before [])) (sym i) ∙ of_one (is_along axis link) (stages axis before []) a)))
+step_tells : (along : Bool) (image : Image) (n : ℕ) (sides : List ℕ) (left : List Stage) → Tells n sides left → first_of image < n → ((a b : ℕ) → image ≡ Double a b → b < n)
+    → side_by along image sides ≡ min (if along then total (width left) (tiles_of image) else width left (first_of image)) 65535
+step_tells true (Single a) n sides left tells lt second = let s : width left a + 0 ≡ width left a = omega arith in rw s (tells a lt)
+step_tells true (Double a b) n sides left tells lt second =
+    let x = tells a lt in
+    let y = tells b (second a b refl) in
+    omega (arith, x, y)
+step_tells false (Single a) n sides left tells lt second = tells a lt
+step_tells false (Double a b) n sides left tells lt second = tells a lt
 
--- of one that stands for two across the axis
-pub first_side : (axis : Axis) (before links : List RawLink) (link : RawLink) (t a b most side : ℕ) → links ≡ before ++ link ∷ [] → Double a b ≡ image_of link t → is_along axis link ≡ false
-    → side ≡ min most (width (stages axis before []) a) → side ≡ min most (width (stages axis links []) t)
-first_side axis before links link t a b most side e i f s =
-    s ∙ ap (min most) (sym (width_last axis before links link t e
-    ∙ (ap (stage_width (is_along axis link) (stages axis before [])) (sym i) ∙ ap (λ (along : Bool). stage_width along (stages axis before []) (Double a b)) f)))
+next_tells : (axis : Axis) (link : RawLink) (sides : List ℕ) (left : List Stage) → link_fault link ≡ None → Tells (length (fine_of link).tiles) sides left
+    → Tells (length (coarse_of link).tiles) (next_sides axis link sides) (stage axis link ∷ left)
+unfolding next_sides
+next_tells axis link sides left e tells t lt =
+    let few = (few_tiles (coarse_of link) (coarse_good link e)).1 in
+    get_or-map-range_with_len (side_at axis link sides) 0 256 t t 1 (omega (arith, few)) (omega arith)
+    ∙ step_tells (is_along axis link) (image_of link t) (length (fine_of link).tiles) sides left tells (first_fits link e t lt) (λ a b i. second_fits link e t a b lt i)
 
-counted_up : (most x y first rest : ℕ) → first ≡ min most x → rest ≡ min (most - first) y → first + rest ≡ min most (x + (y + 0))
-counted_up most x y first rest e f = omega (arith, e, f)
+all_tell : (axis : Axis) (links : List RawLink) (set : TileList) (sides : List ℕ) (left : List Stage) → AreLinked set links → Tells (length set.tiles) sides left
+    → Tells (length (last_set set links).tiles) (all_sides axis links sides) (stages axis links left)
+all_tell axis [] set sides left linked tells = tells
+all_tell axis (link ∷ links) set sides left linked tells =
+    all_tell axis links (coarse_of link) (next_sides axis link sides) (stage axis link ∷ left) linked.2
+    (next_tells axis link sides left linked.0 (subst (λ (x : TileList). Tells (length x.tiles) sides left) (sym linked.1) tells))
 
--- of one that stands for two along it
-pub both_sides : (axis : Axis) (before links : List RawLink) (link : RawLink) (t a b most first rest : ℕ) → links ≡ before ++ link ∷ [] → Double a b ≡ image_of link t → is_along axis link ≡ true
-    → first ≡ min most (width (stages axis before []) a) → rest ≡ min (most - first) (width (stages axis before []) b) → first + rest ≡ min most (width (stages axis links []) t)
-both_sides axis before links link t a b most first rest e i f s r =
-    counted_up most (width (stages axis before []) a) (width (stages axis before []) b) first rest s r
-    ∙ ap (min most) (sym (width_last axis before links link t e
-    ∙ (ap (stage_width (is_along axis link) (stages axis before [])) (sym i) ∙ ap (λ (along : Bool). stage_width along (stages axis before []) (Double a b)) f)))
+one_cell : (n t : ℕ) → entry (replicate n 1) t ≡ 1
+one_cell zero t = refl
+one_cell (suc n) zero = refl
+one_cell (suc n) (suc t) = one_cell n t
+
+-- the tables of a tile that stands above these steps
+pub side_told : (axis : Axis) (links : List RawLink) (t : ℕ) → IsAbove links (single t) → entry (all_sides axis links (replicate 256 1)) t ≡ min (width (stages axis links []) t) 65535
+side_told axis links t above =
+    let lt = above.pattern.1 0 0 (omega arith) (omega arith) in
+    all_tell axis links above.set (replicate 256 1) [] above.linked (λ k less. one_cell 256 k) t lt
 
 -- ---- too wide or too high
 
@@ -94,9 +118,9 @@ turned_wide loop renaming t = wide loop renaming 1 t
 turned_high : (loop : List RawLink) (renaming : List ℕ) (t : ℕ) → (turned_tile loop renaming t).height ≡ width (stages Two loop []) (origin renaming t)
 turned_high loop renaming t = high loop renaming 1 t
 
-module _ (loop : List RawLink) (renaming : List ℕ) (t start side : ℕ) (from : start ≡ origin renaming t) (counted : side ≡ min 4097 (width (stages One loop []) start)) where
-  counted_wide : side ≡ min 4097 (turned_tile loop renaming t).width
-  counted_wide = counted ∙ ap (min 4097) (ap (width (stages One loop [])) from ∙ sym (turned_wide loop renaming t))
+module _ (loop : List RawLink) (renaming : List ℕ) (t start side : ℕ) (from : start ≡ origin renaming t) (counted : side ≡ min (width (stages One loop []) start) 65535) where
+  counted_wide : side ≡ min (turned_tile loop renaming t).width 65535
+  counted_wide = counted ∙ ap (λ (n : ℕ). min n 65535) (ap (width (stages One loop [])) from ∙ sym (turned_wide loop renaming t))
 
   too_wide : 4096 < side → nat_lt 4096 (turned_tile loop renaming t).width ≡ true
   too_wide lt = let w = counted_wide in let h : 4096 < (turned_tile loop renaming t).width = omega (arith, w) in grind (arith, nat_tests, h)
@@ -107,9 +131,9 @@ module _ (loop : List RawLink) (renaming : List ℕ) (t start side : ℕ) (from 
   pub says_width : 4096 < side → Some Width ≡ sides_fault (turned_tile loop renaming t)
   says_width lt = rw (too_wide lt) refl
 
-  module _ (other : ℕ) (le : side ≤ 4096) (counted_too : other ≡ min 4097 (width (stages Two loop []) start)) where
-    counted_high : other ≡ min 4097 (turned_tile loop renaming t).height
-    counted_high = counted_too ∙ ap (min 4097) (ap (width (stages Two loop [])) from ∙ sym (turned_high loop renaming t))
+  module _ (other : ℕ) (le : side ≤ 4096) (counted_too : other ≡ min (width (stages Two loop []) start) 65535) where
+    counted_high : other ≡ min (turned_tile loop renaming t).height 65535
+    counted_high = counted_too ∙ ap (λ (n : ℕ). min n 65535) (ap (width (stages Two loop [])) from ∙ sym (turned_high loop renaming t))
 
     too_high : 4096 < other → nat_lt 4096 (turned_tile loop renaming t).height ≡ true
     too_high lt = let w = counted_high in let h : 4096 < (turned_tile loop renaming t).height = omega (arith, w) in grind (arith, nat_tests, h)
@@ -160,12 +184,6 @@ kept_pieces [] = refl
 kept_pieces (t ∷ ts) = ap (λ (ps : List Piece). one t ∷ ps) (kept_pieces ts)
 
 -- ---- several steps
-
-pub last_of : (n : ℕ) (links : List RawLink) (link : RawLink) → length links ≡ n + 1 → link ≡ get_or links n link → links ≡ take n links ++ link ∷ []
-last_of n [] link l e = absurd (omega arith)
-last_of zero (x ∷ []) link l e = rw e refl
-last_of zero (x ∷ y ∷ ys) link l e = absurd (omega arith)
-last_of (suc n) (x ∷ xs) link l e = ap (λ (ls : List RawLink). x ∷ ls) (last_of n xs link (omega arith) e)
 
 pub first_of_steps : (links : List RawLink) (link : RawLink) → 1 ≤ length links → link ≡ get_or links 0 link → links ≡ link ∷ take (length links - 1) (drop 1 links)
 first_of_steps [] link le e = absurd (omega arith)

@@ -1,3 +1,4 @@
 pub mod Levels
 pub mod Rows
+pub mod Sides
 pub mod Turn

@@ -2,6 +2,7 @@
 #![tactic(auto)]
 
 mod laws;
+mod sides;
 mod turning;
 
 pub use turning::{TurnFault, turn};

@@ -1,22 +1,22 @@
 // One turn of a loop on one tile.
-ghost use Rattle.std.specs.Prelude.{◌≡◌, ◌<◌, ◌≤◌, [], length, drop, map, min, None, IfOk, MatchResult};
+ghost use Rattle.std.specs.Prelude.{◌≡◌, ◌<◌, ◌≤◌, length, drop, map, None, IfOk, MatchResult};
 ghost use Rattle.wt_tile.specs.Matching.{grid_axis};
-ghost use Rattle.wt_grid.specs.Widths.{width};
 ghost use Rattle.wt_pattern.specs.Patterns.{IsPattern};
 ghost use Rattle.wt_morphism.specs.Images.{piece, pieces};
 ghost use Rattle.wt_step.specs.Links.{link_fault, coarse_of};
 ghost use Rattle.wt_chain.specs.Sets.{first_count as count_first};
-ghost use Rattle.wt_chain.specs.Growth.{image_of as link_image, is_along as lies_along, origin as origin_of, stages};
+ghost use Rattle.wt_chain.specs.Growth.{origin as origin_of};
 ghost use Rattle.wt_chain.specs.Turns.{axis_of, pieces_of, image_under, image_through as grid_through, single as single_grid};
 ghost use Rattle.wt_expand.specs.Turn.{sides_fault as first_fault, turned_tile, turn_fault, IsTurnedBy, IsTurnRefusal, IsAbove};
 
+use crate::sides::side;
 use std::alloc::{AllocError, Global};
 use wt_chain::{Accepted, End, fine_set};
 use wt_morphism::{ApplyFault, Image, Morphism, apply};
 use wt_pattern::Pattern;
 use wt_seq::Seq;
 use wt_step::RawLink;
-use wt_tile::{Axis, same_axis};
+use wt_tile::Axis;
 
 const MAX_SIDE: u16 = 4096;
 
@@ -35,41 +35,6 @@ pub enum TurnFault {
     OutOfMemory,
 }
 
-/// What a coarse tile stands for; a number past the coarse tiles counts as one that stands for tile 0.
-fn image_of(link: &RawLink, t: u16) -> Image
-    ensures { result ≡ link_image link.now t }
-{
-    let t = usize::from(t);
-    match link {
-        RawLink::Marker(step) => {
-            let images = step.images.as_slice();
-            if t < images.len() {
-                images[t]
-            } else {
-                Image::One(0)
-            }
-        }
-        RawLink::Restrict(step) => {
-            let kept = step.kept.as_slice();
-            if t < kept.len() {
-                Image::One(kept[t])
-            } else {
-                Image::One(0)
-            }
-        }
-    }
-}
-
-/// Whether images of two tiles lie along the axis.
-fn is_along(axis: Axis, link: &RawLink) -> bool
-    ensures { result ≡ lies_along axis link.now }
-{
-    match link {
-        RawLink::Marker(step) => same_axis(axis, step.axis),
-        RawLink::Restrict(_) => false,
-    }
-}
-
 /// The tile that is carried onto t.
 fn origin(renaming: &[u16], t: u16) -> u16
     requires { length renaming.now ≤ 256 }
@@ -83,39 +48,17 @@ fn origin(renaming: &[u16], t: u16) -> u16
     0
 }
 
-/// How many cells the image of a tile under these steps has along the axis, counted up to `most`.
-fn side(axis: Axis, links: &[RawLink], t: u16, most: u16) -> u16
-    ensures { result ≡ min most (width (stages axis links.now []) t) }
-{
-    if most == 0 {
-        return 0;
-    }
-    let [before @ .., link] = links else {
-        return 1;
-    };
-    match image_of(link, t) {
-        Image::One(a) => side(axis, before, a, most),
-        Image::Two(a, b) => {
-            let first = side(axis, before, a, most);
-            if is_along(axis, link) {
-                first + side(axis, before, b, most - first)
-            } else {
-                first
-            }
-        }
-    }
-}
-
 /// What is too long in the image that one turn makes of a tile.
 fn sides_fault(links: &[RawLink], renaming: &[u16], tile: u16) -> Option<TurnFault>
-    requires { length renaming.now ≤ 256 }
+    requires few { length renaming.now ≤ 256 }
+    requires valid { IsAbove links.now (single_grid (origin_of renaming.now tile)) }
     ensures { result ≡ first_fault (turned_tile links.now renaming.now tile) }
 {
     let start = origin(renaming, tile);
-    if side(Axis::One, links, start, MAX_SIDE + 1) > MAX_SIDE {
+    if side(Axis::One, links, start) > MAX_SIDE {
         return Some(TurnFault::Width);
     }
-    if side(Axis::Two, links, start, MAX_SIDE + 1) > MAX_SIDE {
+    if side(Axis::Two, links, start) > MAX_SIDE {
         return Some(TurnFault::Height);
     }
     None
