@@ -11,8 +11,8 @@ use wt_morphism::Image;
 use wt_step::RawLink;
 use wt_tile::{Axis, same_axis};
 
-/// What a coarse tile stands for.
-fn image_of(link: &RawLink, t: u16) -> Image
+/// What a coarse tile of a step stands for; a number past the coarse tiles counts as one that stands for tile 0.
+pub fn image_of(link: &RawLink, t: u16) -> Image
     ensures { result ≡ link_image link.now t }
 {
     let t = usize::from(t);
@@ -36,8 +36,8 @@ fn image_of(link: &RawLink, t: u16) -> Image
     }
 }
 
-/// Whether images of two tiles lie along the axis.
-fn is_along(axis: Axis, link: &RawLink) -> bool
+/// Whether images of two tiles lie along the axis. Those of a restrict step are single tiles.
+pub fn is_along(axis: Axis, link: &RawLink) -> bool
     ensures { result ≡ lies_along axis link.now }
 {
     match link {
@@ -83,7 +83,8 @@ fn climb(axis: Axis, links: &[RawLink], rows: &[bool; 256]) -> [bool; 256]
     table
 }
 
-fn origin(renaming: &[u16], t: u16) -> u16
+/// The tile that a renaming carries onto t, or 0 where none is.
+pub fn origin(renaming: &[u16], t: u16) -> u16
     requires { length renaming.now ≤ 256 }
     ensures { result ≡ origin_of renaming.now t }
 {
@@ -95,8 +96,8 @@ fn origin(renaming: &[u16], t: u16) -> u16
     0
 }
 
-/// For each tile the one that is carried onto it.
-fn origins(renaming: &[u16]) -> [u16; 256]
+/// For each tile the one that a renaming carries onto it.
+pub fn origins(renaming: &[u16]) -> [u16; 256]
     requires { length renaming.now ≤ 256 }
     ensures { result ≡ table_of (origin_of renaming.now) }
 {

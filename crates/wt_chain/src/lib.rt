@@ -16,7 +16,8 @@ mod version;
 
 pub use accepted::{Accepted, upgrade};
 pub use chain::Chain;
-pub use faults::chain_fault;
+pub use faults::{chain_fault, steps_from};
+pub use growth::{image_of, is_along, origin, origins};
 pub use laws::good_chains;
 pub use push::PushFault;
 pub use raw::{End, RawChain, Refusal, Version};

@@ -5,3 +5,4 @@ pub mod Levels
 pub mod RowImages
 pub mod Through
 pub mod Placed
+pub mod OneTurn
