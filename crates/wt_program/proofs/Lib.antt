@@ -2,3 +2,4 @@ pub mod Told
 pub mod Kept
 pub mod Taken
 pub mod Strangers
+pub mod Words

@@ -4,13 +4,15 @@ use Rattle.wt_program.specs.declared.reply.Reply.{Reply}
 use Rattle.wt_program.specs.declared.reply.Reply.TheVariants.{Limit}
 use Rattle.wt_program.specs.Checks.{check_reply}
 use Rattle.wt_program.specs.Desubs.{IsDesubReply}
-use Rattle.wt_program.specs.Commands.{Command, check, desub, command}
+use Rattle.wt_program.specs.Bounds.{bound_reply}
+use Rattle.wt_program.specs.Commands.{Command, check, desub, bound, command}
 use Rattle.wt_program.specs.Replies.{Answer, usage, said}
 
 -- the reply of a command to its whole input
 abbrev pub IsReply : Command → List ℕ → Reply → Type 0
 IsReply check bytes reply = reply ≡ check_reply bytes
 IsReply (desub step) bytes reply = IsDesubReply step bytes reply
+IsReply (bound x y) bytes reply = reply ≡ bound_reply x y bytes
 
 -- an input that is too long is refused before all else
 abbrev pub IsAnswerTo : Bool → Command → List ℕ → Answer → Type 0

@@ -1,8 +1,10 @@
+pub mod Numbers
 pub mod Commands
 pub mod Replies
 pub mod Faults
 pub mod Checks
 pub mod Desubs
+pub mod Bounds
 pub mod Answers
 pub mod Outcomes
 pub mod Promise

@@ -1,6 +1,7 @@
 //! The program `wang`: it checks certificates that say how the patterns of a set of Wang tiles are put together, and answers from them.
 #![tactic(auto)]
 
+mod bound;
 mod checking;
 mod command;
 mod desub;

@@ -42,7 +42,7 @@ type Row = (
 );
 
 /// The worked rows: certificates with a change each, patterns taken apart, and words that are no command.
-const ROWS: [Row; 17] = [
+const ROWS: [Row; 23] = [
     ("check", &[], 0, "accepted open\nsets 3 4\n"),
     (
         "check",
@@ -105,9 +105,20 @@ const ROWS: [Row; 17] = [
         1,
         "refused too small\n",
     ),
+    ("bound 1 0", &[], 1, "refused open chain\n"),
+    (
+        "bound -9223372036854775808 0",
+        &[],
+        1,
+        "refused open chain\n",
+    ),
     ("", &[], 2, "usage\n"),
     ("expand 2", &[], 2, "usage\n"),
+    ("bound 1", &[], 2, "usage\n"),
     ("bound 1 -0", &[], 2, "usage\n"),
+    ("bound 01 0", &[], 2, "usage\n"),
+    ("bound - 0", &[], 2, "usage\n"),
+    ("bound 1 0 0", &[], 2, "usage\n"),
     ("sample 4", &[], 2, "usage\n"),
     ("desub 00", &[], 2, "usage\n"),
 ];

@@ -8,6 +8,7 @@ ghost use Rattle.wt_program.specs.Answers.{IsReply};
 ghost use Rattle.wt_program.specs.Outcomes.{IsAnswered, IsCutOff};
 ghost use Rattle.wt_program.specs.Promise.{IsChainThat, EveryStepTakesApart, HasNoPeriod, HasEverySize};
 
+use crate::bound::bound_reply;
 use crate::checking::check_reply;
 use crate::command::{Command, command_of};
 use crate::desub::desub_reply;
@@ -26,6 +27,7 @@ fn reply_to(alloc: Global, command: Command<'_>, bytes: &[u8]) -> Result<Reply, 
     match command {
         Command::Check => check_reply(alloc, bytes),
         Command::Desub { step } => desub_reply(alloc, step, bytes),
+        Command::Bound { x, y } => bound_reply(alloc, x, y, bytes),
     }
 }
 
