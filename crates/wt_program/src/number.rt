@@ -1,7 +1,7 @@
 // Numbers as words.
 ghost use Rattle.std.specs.Prelude.{◌≡◌, ◌<◌, ◌^◌, SomeIff, true};
 ghost use Rattle.wt_text.specs.Words.{is_decimal};
-ghost use Rattle.wt_scale.specs.Sizes.{magnitude};
+ghost use Rattle.wt_step.specs.Carried.{magnitude};
 ghost use Rattle.wt_program.specs.Numbers.{is_signed as signed, signed_value};
 
 use wt_line::{is_decimal, number};
