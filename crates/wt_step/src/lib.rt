@@ -22,8 +22,6 @@ mod rules;
 mod search;
 mod shape;
 mod step;
-#[cfg(test)]
-mod tests;
 
 pub use borrowed::{LinkRef, RestrictRef};
 pub use carry::{carry_period, has_room};
