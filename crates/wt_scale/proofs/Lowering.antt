@@ -1,17 +1,16 @@
 -- A pattern with a period has a coarse pattern with one, for steps of either kind.
-use Rattle.std.proofs.Common.{arith, ◌≡◌, ◌≤◌, ◌<◌, ◌+◌, ◌*◌, ℕ, List, [], ◌∷◌, length, Option, None, Some, slice_get, option_map, Bool, true, false, cond, refl, sym, ◌∙◌, ap, subst}
+use Rattle.std.proofs.Common.{arith, ◌≡◌, ◌≤◌, ◌<◌, ◌+◌, ◌*◌, ℕ, List, [], ◌∷◌, length, None, Bool, true, false, cond, refl, sym, ap, subst}
 use Rattle.std.proofs.lemmas.List.{append-nil}
-use Rattle.std.proofs.lemmas.Option.{slice_get-map}
 use Rattle.wt_tile.specs.declared.tile.Axis.{Axis}
 use Rattle.wt_tile.specs.declared.tile.Axis.TheVariants.{One, Two}
 use Rattle.wt_tile.specs.Matching.{grid_axis}
 use Rattle.wt_pattern.specs.Patterns.{IsPattern}
-use Rattle.wt_grid.specs.Lines.{Piece, one, two, AllLong}
-use Rattle.wt_grid.specs.Grid.{Grid, IsGrid, along, across, at, lines}
+use Rattle.wt_grid.specs.Lines.{Piece, AllLong}
+use Rattle.wt_grid.specs.Grid.{Grid, IsGrid, along, across, lines}
 use Rattle.wt_grid.specs.Grid.{Axis as GridAxis, one as first_axis, two as second_axis}
 use Rattle.wt_grid.specs.Parts.{core}
 use Rattle.wt_grid.specs.Parts.{other as other_grid}
-use Rattle.wt_grid.specs.Shifts.{IsRepeated, HasVector}
+use Rattle.wt_grid.specs.Shifts.{HasVector}
 use Rattle.wt_grid.specs.Widths.{Stage}
 use Rattle.wt_grid.specs.Traces.{IsStageOf, IsTraced}
 use Rattle.wt_grid.proofs.Parts.{along_core, across_core}
@@ -23,7 +22,7 @@ use Rattle.wt_grid.proofs.CarriedGrids.{core_repeated}
 use Rattle.wt_grid.proofs.Traces.{StandsIn, cut_in}
 use Rattle.wt_grid.proofs.TraceSteps.{same_across, traced_along, traced_across}
 use Rattle.wt_grid.proofs.Vectors.{other_vector}
-use Rattle.wt_grid.proofs.SingleImages.{NoPairs, StandsFor, cells_stand, stand_other, stand_image}
+use Rattle.wt_grid.proofs.SingleImages.{cells_stand, stand_other, stand_image}
 use Rattle.wt_step.specs.declared.raw.RawStep.{RawStep}
 use Rattle.wt_step.specs.declared.raw.RawRestrict.{RawRestrict}
 use Rattle.wt_step.specs.declared.raw.RawLink.{RawLink}
@@ -33,7 +32,7 @@ use Rattle.wt_step.specs.Good.{GoodStep, GoodRestrict}
 use Rattle.wt_step.specs.Links.{link_fault, fine_of}
 use Rattle.wt_step.specs.Meaning.{line_side, pieces, kept_pieces, cut_core, IsCoarse}
 use Rattle.wt_step.proofs.Goodness.{good_step}
-use Rattle.wt_step.proofs.Restricted.{good_restrict, some_kept, kept_once}
+use Rattle.wt_step.proofs.Restricted.{good_restrict, some_kept}
 use Rattle.wt_step.proofs.Desubstitution.{some_coarse}
 use Rattle.wt_scale.specs.Scales.{Lowered, side_below, same_grid_axis}
 use Rattle.wt_step.proofs.PeriodLaw.{carried}

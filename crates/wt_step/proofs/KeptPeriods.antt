@@ -1,5 +1,5 @@
 -- A period of a valid pattern is a period of the pattern that a restrict step keeps.
-use Rattle.std.proofs.Common.{arith, ◌≡◌, ◌≤◌, ◌<◌, ◌+◌, ℕ, Option, None, Some, slice_get, option_map, ℤ, cond, sym, ◌∙◌, ap, subst}
+use Rattle.std.proofs.Common.{arith, ◌≡◌, ◌≤◌, ◌+◌, ℕ, Option, None, Some, slice_get, option_map, ℤ, cond, sym, ◌∙◌, ap, subst}
 use Rattle.std.proofs.lemmas.Option.{slice_get-map}
 use Rattle.wt_pattern.specs.Periods.{IsPeriodAlong}
 use Rattle.wt_grid.specs.Lines.{one, two}
@@ -12,7 +12,7 @@ use Rattle.wt_grid.proofs.SingleImages.{NoPairs, StandsFor, cells_stand}
 use Rattle.wt_step.specs.declared.raw.RawRestrict.{RawRestrict}
 use Rattle.wt_step.specs.Good.{GoodRestrict}
 use Rattle.wt_step.specs.Meaning.{kept_pieces, IsKept}
-use Rattle.wt_step.specs.Carried.{magnitude, with_sign}
+use Rattle.wt_step.specs.Carried.{magnitude}
 use Rattle.wt_step.proofs.Restricted.{kept_once}
 use Rattle.wt_step.proofs.SignedPeriods.{are_opposed, to_vector, from_vector, own_sign}
 

@@ -22,8 +22,6 @@ mod rules;
 mod search;
 mod shape;
 mod step;
-#[cfg(test)]
-mod tests;
 mod walk;
 
 pub use borrowed::{LinkRef, RestrictRef};
