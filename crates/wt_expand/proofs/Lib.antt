@@ -2,3 +2,8 @@ pub mod Cut
 pub mod Short
 pub mod Odometer
 pub mod Levels
+pub mod Tiles
+pub mod Named
+pub mod Ladders
+pub mod Places
+pub mod Moves

@@ -1,3 +1,6 @@
 pub mod Levels
 pub mod Rows
 pub mod Walks
+pub mod Steps
+pub mod Blocks
+pub mod Ladders

@@ -1,4 +1,11 @@
 //! Valid patterns of every size, made row by row.
 #![tactic(auto)]
 
+mod fault;
+mod ladder;
+mod laid;
 mod laws;
+mod rungs;
+mod walk;
+
+pub use fault::RowFault;
