@@ -7,3 +7,6 @@ pub mod Named
 pub mod Ladders
 pub mod Places
 pub mod Moves
+pub mod RowImages
+pub mod Through
+pub mod Placed

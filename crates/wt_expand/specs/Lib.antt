@@ -4,3 +4,5 @@ pub mod Walks
 pub mod Steps
 pub mod Blocks
 pub mod Ladders
+pub mod Picks
+pub mod Expansion

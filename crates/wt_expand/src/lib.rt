@@ -9,3 +9,4 @@ mod rungs;
 mod walk;
 
 pub use fault::RowFault;
+pub use laws::{rows_of_images, rows_of_picks, short_rows_are_rows};
