@@ -10,3 +10,4 @@ pub mod Moves
 pub mod RowImages
 pub mod Through
 pub mod Placed
+pub mod Facts

@@ -162,7 +162,7 @@ module _ (w : ℕ) (some : 1 ≤ w) (renaming : List ℕ) where
       let n : j + 1 ≡ suc j = omega arith in
       let above = from_level b (j + 1) levels old (omega (arith, lt)) ∙ (ap (drop (j + 1)) (sym all) ∙ ap (λ (k : ℕ). drop k ss) n) in
       let whole = under
-          ∙ ap (laid_under way w renaming (take j levels)) (laid l.0 l.1 ∙ (ap (laid_over w renaming l.0 flag) above ∙ ap (λ (u : Bool). laid_over w renaming l.0 u (drop (suc j) ss)) flagged)) in
+      ∙ ap (laid_under way w renaming (take j levels)) (laid l.0 l.1 ∙ (ap (laid_over w renaming l.0 flag) above ∙ ap (λ (u : Bool). laid_over w renaming l.0 u (drop (suc j) ss)) flagged)) in
       subst (λ (ms : List Standing). IsNext way w renaming levels ss ms) (sym whole) (next way j levels ss l.0 f turn l.1)
 
   -- the bottom row, as the code lays it
@@ -170,7 +170,7 @@ module _ (w : ℕ) (some : 1 ≤ w) (renaming : List ℕ) where
       → Fits w renaming levels ns × (row_number renaming levels ns ≡ 0)
   begun n levels ns ts e top under =
       let whole : ns ≡ laid_under Up w renaming levels (record { row = 0 ∷ []; upper = false } ∷ []) =
-          under ∙ (ap (λ (ls : List Level). laid_under Up w renaming ls ts) (take_all n levels (omega (arith, e))) ∙ ap (laid_under Up w renaming levels) top) in
+      under ∙ (ap (λ (ls : List Level). laid_under Up w renaming ls ts) (take_all n levels (omega (arith, e))) ∙ ap (laid_under Up w renaming levels) top) in
       subst (λ (ms : List Standing). Fits w renaming levels ms × (row_number renaming levels ms ≡ 0)) (sym whole) (bottom levels)
 
 -- a row that turns up stands below a row that stands for two

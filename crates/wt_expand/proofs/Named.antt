@@ -48,7 +48,7 @@ module _ (renaming : List ℕ) (level : Level) where
 
   -- along axis 1 a row stands for one, all pieces one after another
   pub row_along : (row : List ℕ) (upper : Bool) → axis_of level.link ≡ first_axis → (upper ≡ true → has_two renaming level row ≡ true)
-    → get_or (rows_below renaming level row) (bit upper) [] ≡ flat_map (λ t. piece_tiles (piece_under renaming level t)) row
+      → get_or (rows_below renaming level row) (bit upper) [] ≡ flat_map (λ t. piece_tiles (piece_under renaming level t)) row
   row_along row upper e inside = go upper inside
     where
       never : has_two renaming level row ≡ false
@@ -60,7 +60,7 @@ module _ (renaming : List ℕ) (level : Level) where
 
   -- along axis 2 the lower or the upper tiles of the pieces
   pub row_across : (row : List ℕ) (upper : Bool) → axis_of level.link ≡ second_axis → (upper ≡ true → has_two renaming level row ≡ true)
-    → get_or (rows_below renaming level row) (bit upper) [] ≡ map (λ t. tile_of upper (piece_under renaming level t)) row
+      → get_or (rows_below renaming level row) (bit upper) [] ≡ map (λ t. tile_of upper (piece_under renaming level t)) row
   row_across row upper e inside = go upper inside
     where
       images : List Piece

@@ -83,7 +83,7 @@ under_more way w b renaming levels j i k cur new top e le inside step laid =
     let lt : k < j = omega (arith, e, le) in
     let cut = rest_of (take j levels) k l.0 (front_of levels j k l.0 lt l.1) in
     let below : standings b (drop (k + 1) levels) (drop ((k + 1) * b) cur) ≡ laid_under way w renaming (drop (k + 1) (take j levels)) top =
-        ap (λ (n : ℕ). standings b (drop n levels) (drop (n * b) cur)) e ∙ (laid ∙ ap (λ (n : ℕ). laid_under way w renaming (drop n (take j levels)) top) (sym e)) in
+    ap (λ (n : ℕ). standings b (drop n levels) (drop (n * b) cur)) e ∙ (laid ∙ ap (λ (n : ℕ). laid_under way w renaming (drop n (take j levels)) top) (sym e)) in
     step l.0 l.1 ∙ (ap (laid_by way w renaming l.0) below ∙ ap (λ (ls : List Level). laid_under way w renaming ls top) (sym cut))
 
 module _ (way : Way) (renaming : List ℕ) where

@@ -48,7 +48,8 @@ both_ends g xs n = ap (map g) (cut xs n) ∙ sym (take-map g n xs)
     cut : (xs : List ℕ) (n : ℕ) → take (min (length xs) n) xs ≡ take n xs
     cut xs n = elim (cases_lt n (length xs)) [
       | inl le ↦ let m : min (length xs) n ≡ n = omega (arith, le) in ap (λ (k : ℕ). take k xs) m
-      | inr lt ↦ let m : min (length xs) n ≡ length xs = omega (arith, lt) in ap (λ (k : ℕ). take k xs) m ∙ (take_all (length xs) xs (omega arith) ∙ sym (take_all n xs (omega (arith, lt)))) ]
+      | inr lt ↦ let m : min (length xs) n ≡ length xs = omega (arith, lt) in ap (λ (k : ℕ). take k xs) m ∙ (take_all (length xs) xs (omega arith) ∙ sym (take_all n xs (omega (arith, lt))))
+    ]
 
 pub laid_ends : (g : ℕ → ℕ) (xs : List ℕ) (n x count : ℕ) (row : List ℕ) → x ≡ count → count ≡ min (length xs) n → take x row ≡ map g (take x xs) → take count row ≡ take n (map g xs)
 laid_ends g xs n x count row e m laid = ap (λ (k : ℕ). take k row) (sym e) ∙ (laid ∙ (ap (λ (k : ℕ). map g (take k xs)) (e ∙ m) ∙ both_ends g xs n))

@@ -1,6 +1,7 @@
 -- What an expander of rows shows, and when there is none.
 use Rattle.std.specs.Prelude.{◌≡◌, ℕ, ◌+◌, ◌-◌, ◌*◌, ◌<◌, ◌≤◌, max, Bool, true, ◌&&◌, nat_le, nat_lt, if◌then◌else◌, List, [], ◌∷◌, length, Option, None, Some}
 use Rattle.wt_grid.specs.Grid.{Grid}
+use Rattle.wt_grid.specs.First.{or_else}
 use Rattle.wt_step.specs.declared.raw.RawLink.{RawLink}
 use Rattle.wt_chain.specs.declared.raw.RawChain.{RawChain}
 use Rattle.wt_chain.specs.declared.raw.End.{End}
@@ -31,15 +32,15 @@ space_for count w = (count + 1) * (w + 260)
 abbrev pub is_side : ℕ → Bool
 is_side n = nat_le 1 n && nat_le n 4096
 
+abbrev pub sides_fault : ℕ → ℕ → Option RowFault
+sides_fault w h = if is_side w then (if is_side h then None else Some Height) else Some Width
+
 abbrev pub space_fault : ℕ → ℕ → Option RowFault
 space_fault need space = if nat_lt space need then Some (Space need) else None
 
 abbrev pub end_fault : List RawLink → End → ℕ → ℕ → ℕ → Option RowFault
 end_fault steps Open w h space = Some OpenChain
-end_fault steps (Loop start renaming e) w h space =
-    if is_side w then
-        (if is_side h then space_fault (space_for (level_count (length steps) start (turns_for e w h)) w) space else Some Height)
-        else Some Width
+end_fault steps (Loop start renaming e) w h space = or_else (sides_fault w h) (space_fault (space_for (level_count (length steps) start (turns_for e w h)) w) space)
 
 -- why the pick of w by h cells isn't given row by row in so much space
 abbrev pub row_fault : RawChain → ℕ → ℕ → ℕ → Option RowFault

@@ -6,3 +6,4 @@ pub mod Blocks
 pub mod Ladders
 pub mod Picks
 pub mod Expansion
+pub mod Ready

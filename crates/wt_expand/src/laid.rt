@@ -153,13 +153,7 @@ fn lay_block(
 }
 
 /// Lays the first block's row from that of the next block.
-pub fn lay_first(
-    ladder: &Ladder<'_>,
-    level: LevelRef<'_>,
-    w: usize,
-    upper: bool,
-    space: &mut [u16],
-)
+pub fn lay_first(ladder: &Ladder<'_>, level: LevelRef<'_>, w: usize, upper: bool, space: &mut [u16])
     requires room { ladder.now.block + 2 ≤ length space.old }
     requires wide { w + 2 ≤ ladder.now.block }
     requires thin { w ≤ 4096 }

@@ -5,8 +5,11 @@ mod fault;
 mod ladder;
 mod laid;
 mod laws;
+mod rows;
 mod rungs;
+mod turns;
 mod walk;
 
 pub use fault::RowFault;
 pub use laws::{rows_of_images, rows_of_picks, short_rows_are_rows};
+pub use rows::RowExpander;

@@ -30,7 +30,7 @@ lay_below-requires-clause-level c =
     let ladder = c.args.ladder.now in
     let ss = standings_at ladder 0 c.args.space.now in
     let lt : c.in-Some.j < length (ladder_levels ladder) =
-        turn_inside c.args.way ladder.renaming.now c.in-Some.j (ladder_levels ladder) ss (turn_found c.args.way ladder.renaming.now c.in-Some.j (ladder_levels ladder) ss (sym c.in-Some.ensures)) in
+    turn_inside c.args.way ladder.renaming.now c.in-Some.j (ladder_levels ladder) ss (turn_found c.args.way ladder.renaming.now c.in-Some.j (ladder_levels ladder) ss (sym c.in-Some.ensures)) in
     omega (arith, lt)
 
 pub returns-in-Some-clause-moved : goal.returns-in-Some-clause-moved
@@ -38,6 +38,6 @@ returns-in-Some-clause-moved c = λ _.
     let ladder = c.args.ladder.now in
     let levels = ladder_levels ladder in
     let next = stepped c.args.w c.requires.some ladder.renaming.now c.args.way ladder.block c.in-Some.j levels c.args.space.now c.lay_at.new.space c.turned_flag.result
-        (standings_at ladder 0 c.args.space.now) (standings_at ladder 0 c.lay_below.new.space) (from_bottom ladder.block levels c.args.space.now) c.requires.fits (sym c.in-Some.ensures)
-        c.turned_flag.ensures c.lay_at.ensures.laid c.lay_below.ensures.laid in
+    (standings_at ladder 0 c.args.space.now) (standings_at ladder 0 c.lay_below.new.space) (from_bottom ladder.block levels c.args.space.now) c.requires.fits (sym c.in-Some.ensures)
+    c.turned_flag.ensures c.lay_at.ensures.laid c.lay_below.ensures.laid in
     (next.fits, next.moved)
