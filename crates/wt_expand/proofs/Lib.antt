@@ -11,3 +11,4 @@ pub mod RowImages
 pub mod Through
 pub mod Placed
 pub mod Facts
+pub mod Widened

@@ -17,7 +17,7 @@ use crate::ladder::Ladder;
 use crate::laid::row_of;
 use crate::rungs::origins;
 use crate::turns::{sides_fault, turns_for};
-use crate::walk::{Way, begin, step};
+use crate::walk::{Way, begin, step, widen};
 use std::marker::Model;
 use wt_chain::{Accepted, End, RawChain};
 use wt_step::RawLink;
@@ -165,8 +165,10 @@ impl<'a> RowExpander<'a> {
         if space.len() < need {
             return Err(RowFault::Space { need });
         }
-        begin(&ladder, w, space);
-        climb(&ladder, w, h, space);
+        // On the way up one cell of each row tells enough.
+        begin(&ladder, 1, space);
+        climb(&ladder, 1, h, space);
+        widen(&ladder, w, space);
         Ok(RowExpander {
             chain: c,
             ladder,

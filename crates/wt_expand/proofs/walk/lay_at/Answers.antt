@@ -1,4 +1,5 @@
-use Rattle.std.proofs.Common.{sym, ◌∙◌, ap, ℕ, List, drop}
+use Rattle.std.proofs.Common.{sym, ◌∙◌, ap, ℕ, ◌*◌, List, take, drop}
+use Rattle.std.proofs.lemmas.List.{take_at}
 use Rattle.wt_expand.specs.Walks.{has_two}
 use Rattle.wt_expand.specs.Blocks.{standing_of}
 use Rattle.wt_expand.specs.Ladders.{ladder_levels, level_of}
@@ -17,3 +18,10 @@ returns-clause-laid c = λ level e.
     laid_at c.args.w ladder.block c.args.i ladder.renaming.now (ladder_levels ladder) level (level_of c.level-level.result) c.args.upper
     c.split_at_mut-rest.result.0.now c.split_at_mut-rest.result.1.now c.lay_first.new.space c.args.space.now
     c.level-level.ensures e (c.split_at_mut-rest.ensures.front_len ∙ c.place.ensures) c.split_at_mut-rest.ensures.value c.lay_first.ensures.laid c.lay_first.ensures.above
+
+pub returns-clause-below : goal.returns-clause-below
+returns-clause-below c =
+    let len = c.split_at_mut-rest.ensures.front_len ∙ c.place.ensures in
+    let n = c.args.i * c.args.ladder.now.block in
+    take_at c.split_at_mut-rest.result.0.now c.lay_first.new.space n len
+    ∙ sym (ap (take n) c.split_at_mut-rest.ensures.value ∙ take_at c.split_at_mut-rest.result.0.now c.split_at_mut-rest.result.1.now n len)
