@@ -2,7 +2,14 @@ pub mod Cut
 pub mod Short
 pub mod Odometer
 pub mod Levels
+pub mod Tiles
+pub mod Named
+pub mod Ladders
+pub mod Places
+pub mod Moves
 pub mod RowImages
 pub mod Through
 pub mod Placed
 pub mod OneTurn
+pub mod Facts
+pub mod Widened

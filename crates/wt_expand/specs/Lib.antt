@@ -1,6 +1,11 @@
 pub mod Levels
 pub mod Rows
 pub mod Walks
+pub mod Steps
+pub mod Blocks
+pub mod Ladders
 pub mod Picks
 pub mod Sides
 pub mod Turn
+pub mod Expansion
+pub mod Ready
