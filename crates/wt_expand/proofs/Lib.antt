@@ -12,3 +12,4 @@ pub mod Through
 pub mod Placed
 pub mod Facts
 pub mod Widened
+pub mod Filled

@@ -1,18 +1,17 @@
 -- The rows that a row stands for, tile by tile.
-use Rattle.std.proofs.Common.{arith, ◌≡◌, ◌≤◌, ◌<◌, ◌+◌, ◌++◌, ◌&&◌, ℕ, zero, suc, Bool, true, false, nat_eq, nat_lt, List, [], ◌∷◌, length, map, get_or, refl, sym, ◌∙◌, ap, cond}
+use Rattle.std.proofs.Common.{arith, ◌≡◌, ◌≤◌, ◌+◌, ◌++◌, ℕ, Bool, true, false, nat_eq, nat_lt, List, [], ◌∷◌, map, get_or, refl, ◌∙◌, ap, cond}
 use Rattle.std.specs.List.{flat_map}
 use Rattle.std.proofs.lemmas.Bool.Decides.{nat_tests}
 use Rattle.wt_grid.proofs.Order.{both}
-use Rattle.wt_grid.specs.Grid.{Axis}
 use Rattle.wt_grid.specs.Grid.{one as first_axis, two as second_axis}
-use Rattle.wt_grid.specs.Lines.{Piece, one, two}
+use Rattle.wt_grid.specs.Lines.{Piece}
 use Rattle.wt_grid.specs.Images.{piece_at, first_tile, last_tile, firsts, lasts, is_double, line_image}
 use Rattle.wt_grid.specs.Traces.{piece_tiles}
 use Rattle.wt_chain.specs.Growth.{origin_from, origin}
 use Rattle.wt_chain.specs.Turns.{axis_of, pieces_of}
-use Rattle.wt_expand.specs.Levels.{Level, named_row, laid_rows, rows_below}
+use Rattle.wt_expand.specs.Levels.{Level, named_row, rows_below}
 use Rattle.wt_expand.specs.Rows.{bit}
-use Rattle.wt_expand.specs.Walks.{lays_two, has_two}
+use Rattle.wt_expand.specs.Walks.{has_two}
 use Rattle.wt_expand.specs.Blocks.{name_in, piece_under, tile_of, are_below}
 
 -- no number below n is met by one that isn't

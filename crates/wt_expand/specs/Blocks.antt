@@ -1,5 +1,5 @@
 -- How standings lie in the lent space: one block of numbers for each, that of the first level first.
-use Rattle.std.specs.Prelude.{ℕ, ◌+◌, Bool, true, ◌&&◌, nat_eq, nat_lt, if◌then◌else◌, List, [], ◌∷◌, take, drop, slice_index}
+use Rattle.std.specs.Prelude.{ℕ, Bool, true, ◌&&◌, nat_eq, nat_lt, if◌then◌else◌, List, [], ◌∷◌, take, drop, slice_index}
 use Rattle.wt_grid.specs.Lines.{Piece}
 use Rattle.wt_grid.specs.Images.{piece_at, first_tile, last_tile}
 use Rattle.wt_chain.specs.Growth.{origin}

@@ -7,3 +7,4 @@ pub mod Ladders
 pub mod Picks
 pub mod Expansion
 pub mod Ready
+pub mod Wholes
