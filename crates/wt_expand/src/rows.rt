@@ -22,7 +22,9 @@ use std::marker::Model;
 use wt_chain::{Accepted, End, RawChain};
 use wt_step::RawLink;
 
-/// The rows of a pick, one after another from the top. It takes no memory: it works in lent space.
+/// The rows of a pick, one after another from the top. It takes no memory: it works in lent space, where it
+/// keeps one row of each level, and whether that is the lower or the upper one of the two that the row above
+/// stands for.
 #[derive(Drop)]
 pub struct RowExpander<'a> {
     chain: &'a Accepted,
@@ -78,7 +80,7 @@ fn ladder_of<'a>(
 }
 
 /// The levels of the pick of w by h cells.
-fn ladder_for<'a>(chain: &'a RawChain, w: usize, h: usize) -> Result<Ladder<'a>, RowFault>
+pub fn ladder_for<'a>(chain: &'a RawChain, w: usize, h: usize) -> Result<Ladder<'a>, RowFault>
     requires { chain_fault chain.now ≡ None }
     ensures { MatchResult result
         (λ ladder. IsLadder chain.now w h ladder × ((space : ℕ) → fault_of chain.now w h space ≡ space_fault (space_for (length (ladder_levels ladder)) w) space))
@@ -104,7 +106,7 @@ fn ladder_for<'a>(chain: &'a RawChain, w: usize, h: usize) -> Result<Ladder<'a>,
 }
 
 /// How many numbers the standings of a ladder take.
-fn need(ladder: &Ladder<'_>) -> usize
+pub fn need(ladder: &Ladder<'_>) -> usize
     ensures { result ≡ (length (ladder_levels ladder.now) + 1) * ladder.now.block }
 {
     (ladder.count() + 1) * ladder.block
@@ -149,7 +151,9 @@ fn give(ladder: &Ladder<'_>, w: usize, h: usize, given: usize, space: &mut [u16]
 impl<'a> RowExpander<'a> {
     /// The rows of the pick of w by h cells of a looped chain: the lower left part of what enough turns of the
     /// loop make of tile 0. `OpenChain` comes exactly where the chain isn't looped, else `Width` where w isn't 1 to
-    /// 4096, else `Height` where h isn't, else `Space` where the space is shorter than `need`. Takes no memory.
+    /// 4096, else `Height` where h isn't, else `Space` where the space is shorter than `need`: w + 260 numbers for
+    /// each level between the first set and tile 0, and for tile 0. What the space holds doesn't matter. Takes no
+    /// memory.
     pub fn new(
         c: &'a Accepted,
         w: usize,
@@ -165,18 +169,33 @@ impl<'a> RowExpander<'a> {
         if space.len() < need {
             return Err(RowFault::Space { need });
         }
+        Ok(RowExpander::of(c, ladder, w, h, space))
+    }
+
+    /// The rows of the pick whose levels these are, where the space is long enough.
+    pub(crate) fn of(
+        c: &'a Accepted,
+        ladder: Ladder<'a>,
+        w: usize,
+        h: usize,
+        space: &'a mut [u16],
+    ) -> RowExpander<'a>
+        requires levels { IsLadder c.now w h ladder }
+        requires room { (length (ladder_levels ladder) + 1) * ladder.block ≤ length space.old }
+        ensures { result ≡ record { chain = c.now; width = w; height = h; given = 0 } }
+    {
         // On the way up one cell of each row tells enough.
         begin(&ladder, 1, space);
         climb(&ladder, 1, h, space);
         widen(&ladder, w, space);
-        Ok(RowExpander {
+        RowExpander {
             chain: c,
             ladder,
             width: w,
             height: h,
             given: 0,
             space,
-        })
+        }
     }
 
     /// Writes the next row, from the top, and says true; says false exactly where all have been given, and then
