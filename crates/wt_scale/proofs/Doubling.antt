@@ -43,12 +43,12 @@ through_valid (l ∷ ls) set linked g p =
     }
 
 module _ (l : RawLink) (ls : List RawLink) (list : List ℕ) (linked : AreLinked (fine_of l) (l ∷ ls)) (ren : IsRenaming (last_set (coarse_of l) ls).tiles (fine_of l).tiles list) where
-  turned_valid : (g : Grid) → IsPattern (fine_of l).tiles g → IsPattern (fine_of l).tiles (turned (l ∷ ls) list g)
+  pub turned_valid : (g : Grid) → IsPattern (fine_of l).tiles g → IsPattern (fine_of l).tiles (turned (l ∷ ls) list g)
   turned_valid g p =
       let b = renamed_back_valid (last_set (coarse_of l) ls).tiles (fine_of l).tiles list ren g p in
       (through_valid (l ∷ ls) (fine_of l) linked (renamed_back list g) b.pattern).pattern
 
-  times_valid : (n : ℕ) (g : Grid) → IsPattern (fine_of l).tiles g → IsPattern (fine_of l).tiles (turned_times (l ∷ ls) list n g)
+  pub times_valid : (n : ℕ) (g : Grid) → IsPattern (fine_of l).tiles g → IsPattern (fine_of l).tiles (turned_times (l ∷ ls) list n g)
   times_valid zero g p = p
   times_valid (suc n) g p = times_valid n (turned (l ∷ ls) list g) (turned_valid g p)
 

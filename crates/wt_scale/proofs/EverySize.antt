@@ -25,7 +25,7 @@ use Rattle.wt_scale.proofs.Doubling.{through_valid, doubled_sides}
 use Rattle.wt_scale.proofs.Powers.{enough}
 
 -- one tile alone is a valid pattern
-single_pattern : (ts : List Tile) → 0 < length ts → IsPattern ts (single 0)
+pub single_pattern : (ts : List Tile) → 0 < length ts → IsPattern ts (single 0)
 single_pattern ts some = (record { wide = omega arith; high = omega arith; whole = refl }, below, valid)
   where
     below : AllBelow (length ts) (single 0)
@@ -53,10 +53,10 @@ grown_more : (loop : List RawLink) (list : List ℕ) (e k : ℕ) → grown loop 
 grown_more loop list e k = let s : suc k * e ≡ k * e + e = omega arith in ap (λ (n : ℕ). turned_times loop list n (single 0)) s ∙ turns_behind loop list (k * e) e (single 0)
 
 -- a valid pattern with sides of at least this length
-record IsLong (ts : List Tile) (side : ℕ) (g : Grid) : Type 0 where
-  pattern : IsPattern ts g
-  wide : side ≤ g.width
-  high : side ≤ g.height
+pub record IsLong (ts : List Tile) (side : ℕ) (g : Grid) : Type 0 where
+  pub pattern : IsPattern ts g
+  pub wide : side ≤ g.width
+  pub high : side ≤ g.height
 
 module _ (l : RawLink) (ls : List RawLink) (linked : AreLinked (fine_of l) (l ∷ ls)) (list : List ℕ) (e : ℕ) (good : GoodLoop (l ∷ ls) list e) where
   -- e turns more double the sides
@@ -86,24 +86,31 @@ module _ (l : RawLink) (ls : List RawLink) (linked : AreLinked (fine_of l) (l �
       let s = subst (λ (n : ℕ). IsLong (fine_of l).tiles n (turned_times (l ∷ ls) list e (grown (l ∷ ls) list e k))) (sym (doubled k)) r in
       subst (λ (g : Grid). IsLong (fine_of l).tiles (2 ^ suc k) g) (sym (grown_more (l ∷ ls) list e k)) s
 
--- images under the steps before the loop are no smaller
-from_start : (first : RawLink) (rest : List RawLink) → AreLinked (fine_of first) (first ∷ rest) → (start : ℕ) (list : List ℕ) (e : ℕ) (loop : List RawLink) → drop start (first ∷ rest) ≡ loop → GoodLoop loop list e
-    → (w h : ℕ) → 1 ≤ w → 1 ≤ h → IsPatternOf (fine_of first).tiles w h (lower_left w h (image_through (take start (first ∷ rest)) (grown loop list e (power_for (max w h)))))
-from_start first rest linked start list e [] same good w h some_wide some_high = absurd good
-from_start first rest linked start list e (l ∷ ls) same good w h some_wide some_high =
+-- Images under the steps before the loop are no smaller: for each n, turns for the power of n come to sides of at least n.
+pub long_from_start : (first : RawLink) (rest : List RawLink) → AreLinked (fine_of first) (first ∷ rest) → (start : ℕ) (list : List ℕ) (e : ℕ) (loop : List RawLink) → drop start (first ∷ rest) ≡ loop → GoodLoop loop list e
+    → (n : ℕ) → IsLong (fine_of first).tiles n (image_through (take start (first ∷ rest)) (grown loop list e (power_for n)))
+long_from_start first rest linked start list e [] same good n = absurd good
+long_from_start first rest linked start list e (l ∷ ls) same good n =
     let prefix = take start (first ∷ rest) in
     let set = fine_of first in
     let whole = subst (λ (ys : List RawLink). AreLinked set ys) (sym (split_steps first rest (l ∷ ls) start same)) linked in
     let two = linked_apart set prefix (l ∷ ls) whole in
     let own = run_linked (last_set set prefix) (l ∷ ls) two.1 l ls refl in
-    let k = power_for (max w h) in
+    let k = power_for n in
     let g = grown_long l ls own.0 list e good k in
     let t = through_valid prefix set two.0 (grown (l ∷ ls) list e k) (subst (λ (x : TileList). IsPattern x.tiles (grown (l ∷ ls) list e k)) own.1 g.pattern) in
-    let b = enough (max w h) in
-    let mw = le-max_left w h in let mh = le-max_right w h in
+    let b = enough n in
     let gw = g.wide in let gh = g.high in
     let tw = t.wide in let th = t.high in
-    cut_down set.tiles (image_through prefix (grown (l ∷ ls) list e k)) w h t.pattern some_wide some_high (omega (arith, b, mw, gw, tw)) (omega (arith, b, mh, gh, th))
+    record { pattern = t.pattern; wide = omega (arith, b, gw, tw); high = omega (arith, b, gh, th) }
+
+from_start : (first : RawLink) (rest : List RawLink) → AreLinked (fine_of first) (first ∷ rest) → (start : ℕ) (list : List ℕ) (e : ℕ) (loop : List RawLink) → drop start (first ∷ rest) ≡ loop → GoodLoop loop list e
+    → (w h : ℕ) → 1 ≤ w → 1 ≤ h → IsPatternOf (fine_of first).tiles w h (lower_left w h (image_through (take start (first ∷ rest)) (grown loop list e (power_for (max w h)))))
+from_start first rest linked start list e loop same good w h some_wide some_high =
+    let g = long_from_start first rest linked start list e loop same good (max w h) in
+    let mw = le-max_left w h in let mh = le-max_right w h in
+    let gw = g.wide in let gh = g.high in
+    cut_down (fine_of first).tiles (image_through (take start (first ∷ rest)) (grown loop list e (power_for (max w h)))) w h g.pattern some_wide some_high (omega (arith, mw, gw)) (omega (arith, mh, gh))
 
 -- Each pick is a valid pattern over the first set, of its size.
 pub valid_pick : (c : RawChain) → GoodChain c → (start e : ℕ) (list : List ℕ) → c.end ≡ Loop start list e → (first : RawLink) (rest : List RawLink) → c.steps ≡ first ∷ rest

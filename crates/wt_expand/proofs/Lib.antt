@@ -1,0 +1,15 @@
+pub mod Cut
+pub mod Short
+pub mod Odometer
+pub mod Levels
+pub mod Tiles
+pub mod Named
+pub mod Ladders
+pub mod Places
+pub mod Moves
+pub mod RowImages
+pub mod Through
+pub mod Placed
+pub mod Facts
+pub mod Widened
+pub mod Filled

@@ -1,0 +1,169 @@
+// Rows laid out from the rows above them.
+ghost use Rattle.std.specs.Prelude.{◌≡◌, ◌+◌, ◌<◌, ◌≤◌, [], ◌∷◌, ◌++◌, length, take, drop, map, slice_index, slice_index_or, true};
+ghost use Rattle.std.specs.List.{flat_map};
+ghost use Rattle.wt_grid.specs.Traces.{piece_tiles};
+ghost use Rattle.wt_step.specs.Meaning.{piece as piece_of};
+ghost use Rattle.wt_expand.specs.Levels.{rows_below};
+ghost use Rattle.wt_expand.specs.Rows.{bit};
+ghost use Rattle.wt_expand.specs.Walks.{has_two, laid};
+ghost use Rattle.wt_expand.specs.Blocks.{piece_under, standing_of};
+ghost use Rattle.wt_expand.specs.Ladders.{level_of};
+ghost use Rattle.wt_expand.specs.Blocks.{tile_of as the_tile};
+
+use crate::ladder::{Ladder, LevelRef};
+use crate::rungs::is_along;
+use wt_morphism::Image;
+
+/// Writes a tile behind the first ones, while there is room, and tells how many there are then.
+fn put(row: &mut [u16], len: usize, tile: u16) -> usize
+    requires { len ≤ length row.old }
+    ensures put { take result row.new ≡ take (length row.old) (take len row.old ++ tile ∷ []) }
+    ensures within { result ≤ length row.new }
+    ensures room { length row.new ≡ length row.old }
+{
+    if len == row.len() {
+        return len;
+    }
+    row[len] = tile;
+    len + 1
+}
+
+fn put_image(row: &mut [u16], len: usize, image: Image) -> usize
+    requires { len ≤ length row.old }
+    ensures put { take result row.new ≡ take (length row.old) (take len row.old ++ piece_tiles (piece_of image)) }
+    ensures within { result ≤ length row.new }
+    ensures room { length row.new ≡ length row.old }
+{
+    match image {
+        Image::One(a) => put(row, len, a),
+        Image::Two(a, b) => {
+            let next = put(row, len, a);
+            put(row, next, b)
+        }
+    }
+}
+
+/// Lays the pieces of a row's tiles one after another, as far as there is room, and tells how many tiles
+/// there are then.
+fn lay_along(ladder: &Ladder<'_>, level: LevelRef<'_>, above: &[u16], row: &mut [u16]) -> usize
+    ensures laid { take result row.new
+        ≡ take (length row.old) (flat_map (λ t. piece_tiles (piece_under ladder.now.renaming.now (level_of level.entry) t)) above.now) }
+    ensures within { result ≤ length row.new }
+    ensures room { length row.new ≡ length row.old }
+{
+    let mut len = 0;
+    for tile in above {
+        if len == row.len() {
+            return len;
+        }
+        len = put_image(row, len, ladder.piece(level, *tile));
+    }
+    len
+}
+
+/// The lower or the upper tile of an image.
+fn tile_of(upper: bool, image: Image) -> u16
+    ensures { result ≡ the_tile upper (piece_of image) }
+{
+    match image {
+        Image::One(a) => a,
+        Image::Two(a, b) => { if upper { b } else { a } }
+    }
+}
+
+/// Lays the lower or the upper tiles of a row's pieces, as far as there is room, and tells how many there are.
+fn lay_across(
+    ladder: &Ladder<'_>,
+    level: LevelRef<'_>,
+    above: &[u16],
+    upper: bool,
+    row: &mut [u16],
+) -> usize
+    ensures laid { take result row.new
+        ≡ take (length row.old) (map (λ t. the_tile upper (piece_under ladder.now.renaming.now (level_of level.entry) t)) above.now) }
+    ensures within { result ≤ length row.new }
+    ensures room { length row.new ≡ length row.old }
+{
+    let count = above.len().min(row.len());
+    for x in 0..count {
+        row[x] = tile_of(upper, ladder.piece(level, above[x]));
+    }
+    count
+}
+
+/// Lays the lower or the upper row that a row stands for.
+fn lay_row(
+    ladder: &Ladder<'_>,
+    level: LevelRef<'_>,
+    above: &[u16],
+    upper: bool,
+    row: &mut [u16],
+) -> usize
+    requires inside { upper ≡ true → has_two ladder.now.renaming.now (level_of level) above.now ≡ true }
+    ensures laid { take result row.new
+        ≡ take (length row.old) (slice_index_or (rows_below ladder.now.renaming.now (level_of level.entry) above.now) (bit upper) []) }
+    ensures within { result ≤ length row.new }
+    ensures room { length row.new ≡ length row.old }
+{
+    if is_along(level.link) {
+        lay_along(ladder, level, above, row)
+    } else {
+        lay_across(ladder, level, above, upper, row)
+    }
+}
+
+/// The row that a block holds.
+pub fn row_of(block: &[u16]) -> &[u16]
+    requires { 2 ≤ length block.now }
+    ensures { result.now ≡ (standing_of block.now).row }
+{
+    let tiles = &block[2..];
+    let len = usize::from(block[1]).min(tiles.len());
+    &tiles[..len]
+}
+
+/// Whether a block holds the upper one of two rows.
+pub fn is_upper(block: &[u16]) -> bool
+    requires { 2 ≤ length block.now }
+    ensures { result ≡ (standing_of block.now).upper }
+{
+    block[0] == 1
+}
+
+/// Lays a block's row from the row above.
+fn lay_block(
+    ladder: &Ladder<'_>,
+    level: LevelRef<'_>,
+    w: usize,
+    above: &[u16],
+    upper: bool,
+    block: &mut [u16],
+)
+    requires wide { w + 2 ≤ length block.old }
+    requires thin { w ≤ 4096 }
+    requires inside { upper ≡ true → has_two ladder.now.renaming.now (level_of level) above.now ≡ true }
+    ensures laid { standing_of block.new ≡ laid w ladder.now.renaming.now (level_of level.entry) above.now upper }
+    ensures within { slice_index block.new 1 + 2 ≤ length block.new }
+    ensures room { length block.new ≡ length block.old }
+{
+    let (head, tiles) = block.split_at_mut(2);
+    let len = lay_row(ladder, level, above, upper, &mut tiles[..w]);
+    head[0] = u16::from(upper);
+    head[1] = len as u16;
+}
+
+/// Lays the first block's row from that of the next block.
+pub fn lay_first(ladder: &Ladder<'_>, level: LevelRef<'_>, w: usize, upper: bool, space: &mut [u16])
+    requires room { ladder.now.block + 2 ≤ length space.old }
+    requires wide { w + 2 ≤ ladder.now.block }
+    requires thin { w ≤ 4096 }
+    requires inside { upper ≡ true
+        → has_two ladder.now.renaming.now (level_of level) (standing_of (drop ladder.now.block space.old)).row ≡ true }
+    ensures laid { standing_of space.new
+        ≡ laid w ladder.now.renaming.now (level_of level.entry) (standing_of (drop ladder.now.block space.old)).row upper }
+    ensures above { drop ladder.now.block space.new ≡ drop ladder.now.block space.old }
+    ensures size { length space.new ≡ length space.old }
+{
+    let (block, above) = space.split_at_mut(ladder.block);
+    lay_block(ladder, level, w, row_of(above), upper, block);
+}
