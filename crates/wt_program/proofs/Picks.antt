@@ -1,10 +1,10 @@
 -- Where a chain has a pick of a size, want of space is the only fault, and the pick has this size.
-use Rattle.std.proofs.Common.{arith, ◌≡◌, ◌≤◌, ◌<◌, ◌^◌, ◌-◌, ℕ, zero, suc, ◌+◌, max, List, take, drop, length, min, refl, sym, ◌∙◌, ap, subst}
-use Rattle.std.specs.Prelude.{Option, None, Some, Bool, true, false, nat_le, nat_lt, ◌&&◌, if◌then◌else◌}
+use Rattle.std.proofs.Common.{arith, ◌≡◌, ◌≤◌, ◌^◌, ◌-◌, ℕ, zero, suc, ◌+◌, max, List, take, drop, length, min, refl, sym, ◌∙◌, ap, subst}
+use Rattle.std.specs.Prelude.{Option, None, Some, Bool, true, false, nat_lt, if◌then◌else◌}
 use Rattle.std.proofs.lemmas.Bool.Decides.{nat_tests}
 use Rattle.wt_text.specs.Lines.{bytes_of}
 use Rattle.wt_grid.specs.First.{or_else}
-use Rattle.wt_grid.specs.Grid.{Grid, cell}
+use Rattle.wt_grid.specs.Grid.{cell}
 use Rattle.wt_grid.proofs.Parts.{grid_grid}
 use Rattle.wt_pattern.specs.PatternRows.{pattern_lines}
 use Rattle.wt_step.specs.declared.raw.RawLink.{RawLink}
@@ -14,9 +14,8 @@ use Rattle.wt_chain.specs.declared.raw.End.TheVariants.{Open, Loop}
 use Rattle.wt_chain.specs.Turns.{image_through}
 use Rattle.wt_scale.specs.Pick.{power_for, grown}
 use Rattle.wt_expand.specs.declared.fault.RowFault.{RowFault}
-use Rattle.wt_expand.specs.declared.fault.RowFault.TheVariants.{OpenChain, Width, Height, Space}
-use Rattle.wt_expand.specs.Expansion.{turns_for, level_count, space_for, is_side, space_fault, end_fault, row_fault, end_pick, pick_of}
-use Rattle.wt_program.specs.declared.reply.Reply.{Reply}
+use Rattle.wt_expand.specs.declared.fault.RowFault.TheVariants.{Width, Height, Space}
+use Rattle.wt_expand.specs.Expansion.{Expansion, turns_for, level_count, space_for, is_side, space_fault, end_fault, row_fault, end_pick, pick_of}
 use Rattle.wt_program.specs.declared.reply.Reply.TheVariants.{Answered}
 use Rattle.wt_program.specs.Expands.{HasSize, pick_reply}
 
@@ -87,20 +86,12 @@ sized_by steps (Loop start renaming e) w h x = record {
   high = refl;
 }
 
-pub sized : (c : RawChain) (w h s : ℕ) → row_fault c w h s ≡ None → HasSize (pick_of c w h) w h
+sized : (c : RawChain) (w h s : ℕ) → row_fault c w h s ≡ None → HasSize (pick_of c w h) w h
 sized c w h s e = sized_by c.steps c.end w h (sided c.steps c.end w h s e)
 
-told_by : (c : RawChain) (end : End) (w h : ℕ) → Sided end w h → pick_reply c end w h ≡ Answered (bytes_of (pattern_lines (end_pick c.steps end w h)))
-told_by c Open w h x = absurd x
-told_by c (Loop start renaming e) w h x =
-    let wide = within w x.0 in
-    let high = within h x.1 in
-    let a : nat_lt 4096 w ≡ false = grind (arith, nat_tests) in
-    let b : nat_lt 4096 h ≡ false = grind (arith, nat_tests) in
-    rw (a, b) refl
-
-pub told_rows : (c : RawChain) (w h s : ℕ) → row_fault c w h s ≡ None → pick_reply c c.end w h ≡ Answered (bytes_of (pattern_lines (pick_of c w h)))
-told_rows c w h s e = told_by c c.end w h (sided c.steps c.end w h s e)
+-- the same of rows that are just begun
+pub begun : (c : RawChain) (w h s : ℕ) (rows : Expansion) → rows ≡ record { chain = c; width = w; height = h; given = 0 } → row_fault c w h s ≡ None → HasSize (pick_of rows.chain rows.width rows.height) rows.width rows.height
+begun c w h s rows is e = subst (λ (x : Expansion). HasSize (pick_of x.chain x.width x.height) x.width x.height) (sym is) (sized c w h s e)
 
 side_of : (n : ℕ) → 1 ≤ n → n ≤ 4096 → is_side n ≡ true
 side_of n a b = grind (arith, nat_tests)

@@ -5,7 +5,6 @@ ghost use Rattle.wt_chain.specs.Faults.{chain_fault};
 ghost use Rattle.wt_expand.specs.Expansion.{row_fault};
 ghost use Rattle.wt_program.specs.Expands.{pick_reply, expanded, expand_reply, reply_of};
 
-use wt_expand::{RowExpander, RowFault};
 use crate::fault::fault_reply;
 use crate::number::{Side, length_of};
 use crate::pick_rows::PickRows;
@@ -15,6 +14,7 @@ use std::alloc::{AllocError, Global};
 use wt_cert::read_cert;
 use wt_chain::{Accepted, End, RawChain};
 use wt_check::{check, refusal_text};
+use wt_expand::{RowExpander, RowFault};
 use wt_seq::Seq;
 
 /// How much space the rows of a pick take.
@@ -32,7 +32,12 @@ fn space_for(chain: &Accepted, width: usize, height: usize) -> usize
 
 /// The pick with the memory for its rows.
 #[tactic(auto, using(crate::proofs::Picks::narrow))]
-fn rows_of(alloc: Global, chain: Accepted, width: usize, height: usize) -> Result<PickRows, AllocError>
+fn rows_of(
+    alloc: Global,
+    chain: Accepted,
+    width: usize,
+    height: usize,
+) -> Result<PickRows, AllocError>
     requires { (space : ℕ) × (row_fault chain width height space ≡ None) }
     ensures { IfOk result (λ rows. reply_of (Prepared.Rows rows) ≡ pick_reply chain chain.end width height) }
 {
@@ -48,7 +53,12 @@ fn rows_of(alloc: Global, chain: Accepted, width: usize, height: usize) -> Resul
 }
 
 /// What is made of a good chain.
-fn prepare(alloc: Global, chain: Accepted, width: usize, height: usize) -> Result<Prepared, AllocError>
+fn prepare(
+    alloc: Global,
+    chain: Accepted,
+    width: usize,
+    height: usize,
+) -> Result<Prepared, AllocError>
     requires wide { 1 ≤ width }
     requires high { 1 ≤ height }
     ensures { IfOk result (λ made. reply_of made ≡ pick_reply chain chain.end width height) }

@@ -7,9 +7,9 @@ ghost use Rattle.wt_pattern.specs.PatternRows.{pattern_lines};
 ghost use Rattle.wt_expand.specs.Expansion.{pick_of};
 ghost use Rattle.wt_program.specs.Expands.{HasSize};
 
-use wt_expand::RowExpander;
 use crate::pick_rows::PickRows;
 use crate::row_text::put_row;
+use wt_expand::RowExpander;
 use wt_io::{Sink, WriteFault, write_all};
 
 /// Writes the rows of a pick, the top one first. The buffers have room for a row and for its text, so no memory is taken.

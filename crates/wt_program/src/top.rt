@@ -19,7 +19,7 @@ use crate::prepared::Prepared;
 use crate::rows::write_pick;
 use crate::status::{ANSWERED, LIMIT, OUT_OF_MEMORY, READ_FAULT, USAGE, WRITE_FAULT};
 use std::alloc::{AllocError, Global};
-use wt_io::{ReadError, Sink, Source, read_all, write_all};
+use wt_io::{ReadError, Sink, Source, WriteFault, read_all, write_all};
 
 /// The most bytes that an input may have: 16 MiB.
 const MAX_INPUT: usize = 16_777_216;
@@ -64,7 +64,7 @@ fn deliver<K: Sink>(sink: &mut K, made: Prepared) -> u8
         Prepared::Whole(reply) => finish(sink, reply.text(), reply.status()),
         Prepared::Rows(rows) => match write_pick(sink, rows) {
             Ok(()) => ANSWERED,
-            Err(_) => WRITE_FAULT,
+            Err(WriteFault) => WRITE_FAULT,
         },
     }
 }

@@ -1,4 +1,4 @@
-use Rattle.std.proofs.Common.{arith, ◌≡◌, ◌≤◌, length, refl}
+use Rattle.std.proofs.Common.{arith, ◌≤◌, length, refl}
 use Rattle.std.specs.Prelude.{codes}
 use Rattle.wt_io.specs.Causes.{Rose}
 use Rattle.wt_program.specs.declared.reply.Reply.TheVariants.{Limit}
