@@ -1,17 +1,15 @@
 -- What a good looped chain says of its loop, and what the rows that stand in the space are.
-use Rattle.std.proofs.Common.{arith, ◌≡◌, ◌≤◌, ◌<◌, ◌+◌, ◌-◌, ◌*◌, ◌^◌, ◌&&◌, ℕ, zero, suc, max, Bool, true, false, nat_le, nat_lt, List, [], ◌∷◌, length, take, drop, get_or, None, Some, refl, sym, ◌∙◌, ap, subst, cond}
+use Rattle.std.proofs.Common.{arith, ◌≡◌, ◌≤◌, ◌<◌, ◌+◌, ◌-◌, ◌*◌, ◌^◌, ◌&&◌, ℕ, zero, suc, Bool, true, false, nat_le, nat_lt, List, [], ◌∷◌, length, take, drop, get_or, None, Some, refl, sym, ◌∙◌, ap, subst, cond}
 use Rattle.std.proofs.lemmas.List.{length-drop}
 use Rattle.std.proofs.lemmas.Bool.Decides.{nat_tests}
 use Rattle.wt_tile.proofs.Sizes.{few_tiles}
 use Rattle.wt_grid.specs.Grid.{lines, two}
-use Rattle.wt_bijection.specs.Carried.{IsRenaming}
 use Rattle.wt_step.specs.declared.raw.RawLink.{RawLink}
-use Rattle.wt_step.specs.Links.{link_fault, fine_of, coarse_of}
+use Rattle.wt_step.specs.Links.{link_fault, fine_of}
 use Rattle.wt_chain.specs.declared.raw.RawChain.{RawChain}
 use Rattle.wt_chain.specs.declared.raw.End.{End}
 use Rattle.wt_chain.specs.declared.raw.End.TheVariants.{Open, Loop}
 use Rattle.wt_chain.specs.Faults.{chain_fault}
-use Rattle.wt_chain.specs.Sets.{last_set}
 use Rattle.wt_chain.specs.Good.{GoodLoop}
 use Rattle.wt_chain.proofs.Good.{step_good}
 use Rattle.wt_chain.proofs.Goodness.{good}
@@ -28,7 +26,6 @@ use Rattle.wt_expand.specs.Steps.{Moved, IsLastRow}
 use Rattle.wt_expand.specs.Blocks.{are_below, standing_of, standings}
 use Rattle.wt_expand.specs.Ladders.{ladder_levels, standings_at}
 use Rattle.wt_expand.specs.Picks.{HasRows}
-use Rattle.wt_expand.specs.Levels.{levels}
 use Rattle.wt_expand.specs.Expansion.{turns_for, level_count, space_for, is_side, sides_fault, space_fault, row_fault, pick_of}
 use Rattle.wt_expand.proofs.Levels.{length_levels}
 use Rattle.wt_expand.specs.Ready.{IsTurning, IsLadder, Stands, IsReady}

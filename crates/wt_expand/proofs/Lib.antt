@@ -13,3 +13,4 @@ pub mod Placed
 pub mod OneTurn
 pub mod Facts
 pub mod Widened
+pub mod Filled

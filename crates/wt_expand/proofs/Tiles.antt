@@ -1,5 +1,5 @@
 -- Rows laid tile by tile, as far as there is room.
-use Rattle.std.proofs.Common.{arith, ◌≡◌, ◌≤◌, ◌<◌, ◌+◌, ◌++◌, ℕ, zero, suc, min, Bool, true, false, List, [], ◌∷◌, length, take, drop, map, get_or, refl, sym, ◌∙◌, ap, append_assoc, length-append, inl, inr}
+use Rattle.std.proofs.Common.{arith, ◌≡◌, ◌≤◌, ◌++◌, ℕ, zero, suc, min, List, [], ◌∷◌, length, take, drop, map, refl, sym, ◌∙◌, ap, append_assoc, inl, inr}
 use Rattle.std.specs.List.{flat_map}
 use Rattle.std.proofs.lemmas.Bool.{cases_lt}
 use Rattle.std.proofs.lemmas.List.{take_all, take-append-le, take-append-drop, take-map}

@@ -9,3 +9,4 @@ pub mod Sides
 pub mod Turn
 pub mod Expansion
 pub mod Ready
+pub mod Wholes

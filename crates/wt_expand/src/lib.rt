@@ -11,8 +11,10 @@ mod sides;
 mod turning;
 mod turns;
 mod walk;
+mod whole;
 
-pub use fault::RowFault;
+pub use fault::{ExpandFault, RowFault};
 pub use laws::{rows_of_images, rows_of_picks, short_rows_are_rows};
 pub use rows::RowExpander;
 pub use turning::{TurnFault, turn};
+pub use whole::expand;

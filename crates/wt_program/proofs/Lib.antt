@@ -3,3 +3,6 @@ pub mod Kept
 pub mod Taken
 pub mod Strangers
 pub mod Words
+pub mod Sides
+pub mod Picks
+pub mod RowTexts

@@ -5,6 +5,7 @@ pub mod Faults
 pub mod Checks
 pub mod Desubs
 pub mod Bounds
+pub mod Expands
 pub mod Answers
 pub mod Outcomes
 pub mod Promise

@@ -5,9 +5,14 @@ mod bound;
 mod checking;
 mod command;
 mod desub;
+mod expand;
 mod fault;
 mod number;
+mod pick_rows;
+mod prepared;
 mod reply;
+mod row_text;
+mod rows;
 mod status;
 #[cfg(test)]
 mod tests;

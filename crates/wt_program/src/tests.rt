@@ -45,7 +45,7 @@ type Row = (
 );
 
 /// The worked rows: certificates with a change each, patterns taken apart, and words that are no command.
-const ROWS: [Row; 23] = [
+const ROWS: [Row; 26] = [
     ("check", &[], 0, "accepted open\nsets 3 4\n"),
     (
         "check",
@@ -115,8 +115,11 @@ const ROWS: [Row; 23] = [
         1,
         "refused open chain\n",
     ),
+    ("expand 5000 2", &[], 1, "refused open chain\n"),
     ("", &[], 2, "usage\n"),
     ("expand 2", &[], 2, "usage\n"),
+    ("expand 2 0", &[], 2, "usage\n"),
+    ("expand 02 2", &[], 2, "usage\n"),
     ("bound 1", &[], 2, "usage\n"),
     ("bound 1 -0", &[], 2, "usage\n"),
     ("bound 01 0", &[], 2, "usage\n"),

@@ -5,6 +5,8 @@ ghost use Rattle.wt_io.specs.Causes.{Rose};
 ghost use Rattle.wt_io.specs.Took.{TookUpTo};
 ghost use Rattle.wt_program.specs.Commands.{check, command, named, word_bytes};
 ghost use Rattle.wt_program.specs.Answers.{IsReply};
+ghost use Rattle.wt_program.specs.Expands.{reply_of};
+ghost use Rattle.wt_program.specs.Replies.{said};
 ghost use Rattle.wt_program.specs.Outcomes.{IsAnswered, IsCutOff};
 ghost use Rattle.wt_program.specs.Promise.{IsChainThat, EveryStepTakesApart, HasNoPeriod, HasEverySize};
 
@@ -12,22 +14,25 @@ use crate::bound::bound_reply;
 use crate::checking::check_reply;
 use crate::command::{Command, command_of};
 use crate::desub::desub_reply;
-use crate::reply::Reply;
-use crate::status::{LIMIT, OUT_OF_MEMORY, READ_FAULT, USAGE, WRITE_FAULT};
+use crate::expand::expansion;
+use crate::prepared::Prepared;
+use crate::rows::write_pick;
+use crate::status::{ANSWERED, LIMIT, OUT_OF_MEMORY, READ_FAULT, USAGE, WRITE_FAULT};
 use std::alloc::{AllocError, Global};
-use wt_io::{ReadError, Sink, Source, read_all, write_all};
+use wt_io::{ReadError, Sink, Source, WriteFault, read_all, write_all};
 
 /// The most bytes that an input may have: 16 MiB.
 const MAX_INPUT: usize = 16_777_216;
 
-/// The reply of a command to its whole input.
-fn reply_to(alloc: Global, command: Command<'_>, bytes: &[u8]) -> Result<Reply, AllocError>
-    ensures { IfOk result (IsReply (named command.entry) bytes.now) }
+/// What is made of the whole input before the first byte is written.
+fn prepare(alloc: Global, command: Command<'_>, bytes: &[u8]) -> Result<Prepared, AllocError>
+    ensures { IfOk result (λ made. IsReply (named command.entry) bytes.now (reply_of made)) }
 {
     match command {
-        Command::Check => check_reply(alloc, bytes),
-        Command::Desub { step } => desub_reply(alloc, step, bytes),
-        Command::Bound { x, y } => bound_reply(alloc, x, y, bytes),
+        Command::Check => Ok(Prepared::Whole(check_reply(alloc, bytes)?)),
+        Command::Desub { step } => Ok(Prepared::Whole(desub_reply(alloc, step, bytes)?)),
+        Command::Bound { x, y } => Ok(Prepared::Whole(bound_reply(alloc, x, y, bytes)?)),
+        Command::Expand { width, height } => expansion(alloc, width, height, bytes),
     }
 }
 
@@ -42,6 +47,25 @@ fn finish<K: Sink>(sink: &mut K, text: &[u8], status: u8) -> u8
     match write_all(sink, text) {
         Ok(()) => status,
         Err(_) => WRITE_FAULT,
+    }
+}
+
+/// Writes an answer and answers its status, or that of a write fault.
+fn deliver<K: Sink>(sink: &mut K, made: Prepared) -> u8
+    ensures small { result ≤ 7 }
+    ensures usage { result ≢ 2 }
+    ensures read { result ≢ 3 }
+    ensures memory { result ≢ 7 }
+    ensures done { result ≢ 4 → (result ≡ (said (reply_of made)).status) × Appends (K.held sink.old) (K.held sink.new) (said (reply_of made)).text }
+    ensures fault { result ≡ 4 → Rose (K.faults sink.old) (K.faults sink.new) }
+    ensures prefix { result ≡ 4 → (n : ℕ) × Appends (K.held sink.old) (K.held sink.new) (take n (said (reply_of made)).text) }
+{
+    match made {
+        Prepared::Whole(reply) => finish(sink, reply.text(), reply.status()),
+        Prepared::Rows(rows) => match write_pick(sink, rows) {
+            Ok(()) => ANSWERED,
+            Err(WriteFault) => WRITE_FAULT,
+        },
     }
 }
 
@@ -64,8 +88,8 @@ pub fn wang<S: Source, K: Sink>(alloc: Global, words: &[String], src: &mut S, si
         return finish(sink, b"usage\n", USAGE);
     };
     match read_all(alloc, src, MAX_INPUT) {
-        Ok(bytes) => match reply_to(alloc, command, &bytes) {
-            Ok(reply) => finish(sink, reply.text(), reply.status()),
+        Ok(bytes) => match prepare(alloc, command, &bytes) {
+            Ok(made) => deliver(sink, made),
             Err(AllocError) => finish(sink, b"out of memory\n", OUT_OF_MEMORY),
         },
         Err(ReadError::ReadFault) => finish(sink, b"read fault\n", READ_FAULT),
