@@ -6,10 +6,11 @@ use std::test::Fail;
 use wt_cert::read_cert;
 use wt_chain::Accepted;
 use wt_check::check;
-use wt_expand::{RowExpander, RowFault, TurnFault, turn};
-use wt_pattern::{Fault, Pattern, period_fault, tiles_fault, valid};
+use wt_expand::{RowExpander, RowFault, TurnFault, expand, turn};
+use wt_morphism::{Morphism, apply};
+use wt_pattern::{Fault, Pattern, core, part, period_fault, tiles_fault, valid};
 use wt_scale::{SizeFault, size_for};
-use wt_step::{Coarse, DesubFault, LinkRef, carry_period, desubstitute, has_room};
+use wt_step::{Coarse, DesubFault, LinkRef, RawStep, carry_period, desubstitute, has_room};
 use wt_tile::Axis;
 
 /// The width, the height and the cells, the bottom row first.
@@ -234,5 +235,50 @@ fn turns_tiles(rt: HostRuntime) -> Result<(), Fail> {
         };
         assert!(rt; is_so, "tile {tile}");
     }
+    Ok(())
+}
+
+/// The image of a coarse pattern of a step.
+fn image_of(alloc: Global, step: &RawStep, q: &Pattern) -> Option<Pattern> {
+    let table = step.images.copy(alloc).ok()?;
+    let axis = step.axis;
+    apply(alloc, &Morphism { axis, table }, q).ok()
+}
+
+/// A pattern without its first and its last line across an axis, where they are cut.
+fn without_cuts(alloc: Global, p: &Pattern, axis: Axis, coarse: &Coarse) -> Option<Pattern> {
+    let (width, height) = (p.width(), p.height());
+    let low = usize::from(coarse.low_cut);
+    let both = low + usize::from(coarse.high_cut);
+    match axis {
+        Axis::One => part(alloc, p, low, 0, width.saturating_sub(both), height).ok(),
+        Axis::Two => part(alloc, p, 0, low, width, height.saturating_sub(both)).ok(),
+    }
+}
+
+fn is_same(p: Pattern, q: Pattern) -> bool {
+    p.width() == q.width() && p.height() == q.height() && p.into_cells() == q.into_cells()
+}
+
+/// Whether the image of what a marker step makes of a pattern is the core, without the lines that are cut.
+fn is_put_together(alloc: Global, link: LinkRef<'_>, p: &Pattern) -> Option<bool> {
+    let LinkRef::Marker(step) = link else {
+        return None;
+    };
+    let step = step.raw();
+    let coarse = taken_apart(alloc, link, p)?.ok()?;
+    let image = image_of(alloc, step, &coarse.pattern)?;
+    let core = core(alloc, p, usize::from(step.radius)).ok()?;
+    let core = without_cuts(alloc, &core, step.axis, &coarse)?;
+    Some(is_same(image, core))
+}
+
+#[test]
+fn puts_together_what_it_took_apart(rt: HostRuntime) -> Result<(), Fail> {
+    let alloc = rt.alloc();
+    let chain = chain_of(alloc, CU).ok_or("chain")?;
+    let link = step_of(&chain, 0).ok_or("step")?;
+    let p = expand(alloc, &chain, 300, 300)?;
+    assert_eq!(rt; is_put_together(alloc, link, &p), Some(true));
     Ok(())
 }
