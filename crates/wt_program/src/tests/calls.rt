@@ -119,7 +119,8 @@ fn says_why_it_takes_none_apart(rt: HostRuntime) -> Result<(), Fail> {
 
 /// The period of the coarse pattern, if the vector is one of a valid pattern with the room for it.
 fn carried(link: LinkRef<'_>, p: &Pattern, dx: i64, dy: i64) -> Option<(i64, i64)> {
-    if tiles_fault(link.fine(), p).is_some() || valid(link.fine(), p).is_some() {
+    let fine = link.fine();
+    if tiles_fault(fine, p).is_some() || valid(fine, p).is_some() {
         return None;
     }
     if period_fault(p, dx, dy).is_some() || !has_room(link, p, dx, dy) {
