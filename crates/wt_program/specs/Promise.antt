@@ -15,19 +15,14 @@ use Rattle.wt_step.specs.Meaning.{line_side, pieces}
 use Rattle.wt_step.specs.Coarse.{IsCoarseOf}
 use Rattle.wt_chain.specs.declared.raw.RawChain.{RawChain}
 use Rattle.wt_chain.specs.declared.raw.End.TheVariants.{Loop}
-<<<<<<< ours
 use Rattle.wt_step.specs.Carried.{magnitude}
 use Rattle.wt_scale.specs.Sizes.{size_of}
-use Rattle.wt_scale.specs.Existence.{HasPattern}
-=======
-use Rattle.wt_scale.specs.Sizes.{magnitude, size_of}
 use Rattle.wt_scale.specs.Existence.{HasPattern, IsPatternOf}
 use Rattle.wt_text.specs.Words.{value_from}
 use Rattle.wt_text.specs.Lines.{bytes_of}
 use Rattle.wt_pattern.specs.PatternRows.{pattern_lines}
 use Rattle.wt_program.specs.declared.reply.Reply.TheVariants.{Answered}
 use Rattle.wt_program.specs.Expands.{expand_reply}
->>>>>>> theirs
 use Rattle.wt_program.specs.Checks.{chain_of}
 
 -- a rectangle is of the step's margin where its core has three lines along the step's axis and one across; for a restrict step, where its core isn't empty
