@@ -1,4 +1,7 @@
 // What no clause says: worked rows over devices in memory, and devices that fail.
+mod calls;
+mod certificates;
+
 use crate::top::wang;
 use std::alloc::Global;
 use std::test::Fail;
