@@ -119,12 +119,14 @@ small_pick c start e list w h lw lh =
 expands : (bytes : List ℕ) (c : RawChain) → chain_of bytes ≡ Ok c → chain_fault c ≡ None → ExpandsToEverySize bytes c
 expands bytes c is fault start e list end first rest steps w h one_w few_w one_h few_h =
     let x = value_from 0 w in
-    let y = value_from 0 h in
-    (pick c.steps start list e x y, valid_pick c (good c fault) start e list end first rest steps x y one_w one_h,
-    ap (λ (r : Result RawChain (TextFault What)). expanded_read r x y) is
-    ∙ ap (λ (f : Option Refusal). expanded c f x y) fault
-    ∙ ap (λ (end : End). pick_reply c end x y) end
-    ∙ small_pick c start e list x y few_w few_h)
+    let y = value_from 0 h in (
+      pick c.steps start list e x y,
+      valid_pick c (good c fault) start e list end first rest steps x y one_w one_h,
+      ap (λ (r : Result RawChain (TextFault What)). expanded_read r x y) is
+          ∙ ap (λ (f : Option Refusal). expanded c f x y) fault
+          ∙ ap (λ (end : End). pick_reply c end x y) end
+          ∙ small_pick c start e list x y few_w few_h,
+    )
 
 pub expanded_well : (left : Option (List ℕ)) → IfSome left (IsChainThat (λ c. chain_fault c ≡ None)) → IfSome left (λ bytes. IsChainThat (ExpandsToEverySize bytes) bytes)
 expanded_well None is = tt
