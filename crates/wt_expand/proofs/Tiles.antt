@@ -4,16 +4,6 @@ use Rattle.std.specs.List.{flat_map}
 use Rattle.std.proofs.lemmas.Bool.{cases_lt}
 use Rattle.std.proofs.lemmas.List.{take_all, take-append-le, take-append-drop, take-map}
 
--- what is cut at n, and goes on, is as if it hadn't been cut
-pub take_front : (n : ℕ) (xs ys : List ℕ) → take n (take n xs ++ ys) ≡ take n (xs ++ ys)
-take_front zero xs ys = refl
-take_front (suc n) [] ys = refl
-take_front (suc n) (x ∷ xs) ys = ap (λ (zs : List ℕ). x ∷ zs) (take_front n xs ys)
-
--- a full row takes no tile more
-pub full_put : (n : ℕ) (row ys : List ℕ) → n ≡ length row → take n row ≡ take (length row) (take n row ++ ys)
-full_put n row ys e = sym (take_front n row ys ∙ take-append-le n row ys (omega (arith, e))) ∙ ap (λ (m : ℕ). take m (take n row ++ ys)) e
-
 flat_append : (f : ℕ → List ℕ) (xs ys : List ℕ) → flat_map f (xs ++ ys) ≡ flat_map f xs ++ flat_map f ys
 flat_append f [] ys = refl
 flat_append f (x ∷ xs) ys = ap (λ (zs : List ℕ). f x ++ zs) (flat_append f xs ys) ∙ sym (append_assoc (f x) (flat_map f xs) (flat_map f ys))
@@ -30,16 +20,6 @@ full_row f xs i n row e laid =
     let long : n ≤ length (take n (flat_map f (take i xs))) = omega (arith, e, ap length (sym whole ∙ laid)) in
     let parts : flat_map f xs ≡ flat_map f (take i xs) ++ flat_map f (drop i xs) = ap (flat_map f) (sym (take-append-drop i xs)) ∙ flat_append f (take i xs) (drop i xs) in
     laid ∙ sym (ap (take n) parts ∙ take-append-le n (flat_map f (take i xs)) (flat_map f (drop i xs)) (cut_length n (flat_map f (take i xs)) long))
-
--- one tile more
-pub one_more : (f : ℕ → List ℕ) (xs : List ℕ) (x : ℕ) (n : ℕ) (row : List ℕ) → row ≡ take n (flat_map f xs) → take n (row ++ f x) ≡ take n (flat_map f (xs ++ x ∷ []))
-one_more f xs x n row laid =
-    let last : flat_map f (xs ++ x ∷ []) ≡ flat_map f xs ++ f x = flat_append f xs (x ∷ []) ∙ ap (λ (zs : List ℕ). flat_map f xs ++ zs) (append_nil (f x)) in
-    rw (laid, last) (take_front n (flat_map f xs) (f x))
-  where
-    append_nil : (ys : List ℕ) → ys ++ [] ≡ ys
-    append_nil [] = refl
-    append_nil (y ∷ ys) = ap (λ (zs : List ℕ). y ∷ zs) (append_nil ys)
 
 -- as many tiles as there are above, and as there is room for
 pub both_ends : (g : ℕ → ℕ) (xs : List ℕ) (n : ℕ) → map g (take (min (length xs) n) xs) ≡ take n (map g xs)

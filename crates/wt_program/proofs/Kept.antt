@@ -1,7 +1,13 @@
 -- What an accepted chain promises.
-use Rattle.std.proofs.Common.{arith, length, ◌≡◌, ℕ, zero, suc, ◌+◌, List, [], ◌∷◌, slice_get, Option, None, Some, option_map, refl, sym, ◌∙◌, ap, subst}
-use Rattle.std.specs.Prelude.{Result, Ok, Err, IfSome, Bool, true, false, nat_lt}
+use Rattle.std.proofs.Common.{arith, ◌≤◌, length, ◌≡◌, ℕ, zero, suc, ◌+◌, List, [], ◌∷◌, slice_get, Option, None, Some, option_map, refl, sym, ◌∙◌, ap, subst}
+use Rattle.std.specs.Prelude.{Result, Ok, Err, IfSome, Bool, true, false, nat_lt, if◌then◌else◌, codes}
+use Rattle.std.proofs.lemmas.Bool.{le-ltb}
 use Rattle.wt_line.specs.declared.faults.What.{What}
+use Rattle.wt_text.specs.Words.{value_from}
+use Rattle.wt_text.specs.Lines.{bytes_of}
+use Rattle.wt_pattern.specs.PatternRows.{pattern_lines}
+use Rattle.wt_chain.specs.declared.raw.End.{End}
+use Rattle.wt_chain.specs.declared.raw.End.TheVariants.{Loop}
 use Rattle.wt_text.specs.Readers.{TextFault, syntax_at, limit_at}
 use Rattle.wt_grid.specs.First.{or_else}
 use Rattle.wt_grid.proofs.First.{neither}
@@ -19,13 +25,17 @@ use Rattle.wt_step.proofs.Desubstitution.{some_coarse, one_coarse, same_blocks}
 use Rattle.wt_step.proofs.Restricted.{good_restrict, some_kept, one_kept}
 use Rattle.wt_chain.proofs.Goodness.{good}
 use Rattle.wt_scale.proofs.NoPeriods.{no_period}
-use Rattle.wt_scale.proofs.EverySize.{every_size}
+use Rattle.wt_scale.proofs.EverySize.{every_size, valid_pick}
+use Rattle.wt_scale.specs.Pick.{pick}
 use Rattle.wt_program.specs.Commands.{Command, check, command}
 use Rattle.wt_program.specs.Replies.{Answer, said}
 use Rattle.wt_program.specs.Checks.{chain_of, judged, checked, check_reply}
+use Rattle.wt_program.specs.declared.reply.Reply.{Reply}
+use Rattle.wt_program.specs.declared.reply.Reply.TheVariants.{Answered, Limit}
+use Rattle.wt_program.specs.Expands.{pick_reply, expanded, expanded_read, expand_reply}
 use Rattle.wt_program.specs.Answers.{IsAnswerBy, IsAnswerTo}
 use Rattle.wt_program.specs.Outcomes.{IsAnswered}
-use Rattle.wt_program.specs.Promise.{IsChainThat, TakesApart, EveryStepTakesApart, HasNoPeriod, HasEverySize}
+use Rattle.wt_program.specs.Promise.{IsChainThat, TakesApart, EveryStepTakesApart, HasNoPeriod, HasEverySize, ExpandsToEverySize}
 
 none_under : (k : ℕ) (a : Option StepFault) → option_map (Step k) a ≡ None → a ≡ None
 none_under k None e = refl
@@ -96,3 +106,31 @@ module _ (holds : RawChain → Type 0) (keeps : (c : RawChain) → chain_fault c
       let a = is (λ h. absurd (omega arith)) (λ h. absurd (omega arith)) (λ h. absurd (omega arith)) in
       let by : IsAnswerTo (nat_lt 16777216 (length bytes)) check bytes a.0 = subst (λ (o : Option Command). IsAnswerBy o bytes a.0) e a.1 in
       answered_well (nat_lt 16777216 (length bytes)) bytes a.0 by (sym a.2 ∙ z)
+
+-- What `expand` replies to the text of a good looped chain.
+
+small_pick : (c : RawChain) (start e : ℕ) (list : List ℕ) (w h : ℕ) → w ≤ 4096 → h ≤ 4096
+    → pick_reply c (Loop start list e) w h ≡ Answered (bytes_of (pattern_lines (pick c.steps start list e w h)))
+small_pick c start e list w h lw lh =
+    let answer = Answered (bytes_of (pattern_lines (pick c.steps start list e w h))) in
+    ap (λ (b : Bool). if b then Limit (codes "limit width\n") else if nat_lt 4096 h then Limit (codes "limit height\n") else answer) (le-ltb 4096 w lw)
+    ∙ ap (λ (b : Bool). if b then Limit (codes "limit height\n") else answer) (le-ltb 4096 h lh)
+
+expands : (bytes : List ℕ) (c : RawChain) → chain_of bytes ≡ Ok c → chain_fault c ≡ None → ExpandsToEverySize bytes c
+expands bytes c is fault start e list end first rest steps w h one_w few_w one_h few_h =
+    let x = value_from 0 w in
+    let y = value_from 0 h in (
+      pick c.steps start list e x y,
+      valid_pick c (good c fault) start e list end first rest steps x y one_w one_h,
+      ap (λ (r : Result RawChain (TextFault What)). expanded_read r x y) is
+          ∙ ap (λ (f : Option Refusal). expanded c f x y) fault
+          ∙ ap (λ (end : End). pick_reply c end x y) end
+          ∙ small_pick c start e list x y few_w few_h,
+    )
+
+pub expanded_well : (left : Option (List ℕ)) → IfSome left (IsChainThat (λ c. chain_fault c ≡ None)) → IfSome left (λ bytes. IsChainThat (ExpandsToEverySize bytes) bytes)
+expanded_well None is = tt
+expanded_well (Some bytes) is = (is.0, is.1, expands bytes is.0 is.1 is.2)
+
+pub is_good : (c : RawChain) → chain_fault c ≡ None → chain_fault c ≡ None
+is_good c e = e

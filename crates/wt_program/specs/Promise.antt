@@ -17,7 +17,12 @@ use Rattle.wt_chain.specs.declared.raw.RawChain.{RawChain}
 use Rattle.wt_chain.specs.declared.raw.End.TheVariants.{Loop}
 use Rattle.wt_step.specs.Carried.{magnitude}
 use Rattle.wt_scale.specs.Sizes.{size_of}
-use Rattle.wt_scale.specs.Existence.{HasPattern}
+use Rattle.wt_scale.specs.Existence.{HasPattern, IsPatternOf}
+use Rattle.wt_text.specs.Words.{value_from}
+use Rattle.wt_text.specs.Lines.{bytes_of}
+use Rattle.wt_pattern.specs.PatternRows.{pattern_lines}
+use Rattle.wt_program.specs.declared.reply.Reply.TheVariants.{Answered}
+use Rattle.wt_program.specs.Expands.{expand_reply}
 use Rattle.wt_program.specs.Checks.{chain_of}
 
 -- a rectangle is of the step's margin where its core has three lines along the step's axis and one across; for a restrict step, where its core isn't empty
@@ -53,6 +58,12 @@ HasNoPeriod chain = (start e : ℕ) (list : List ℕ) → chain.end ≡ Loop sta
 abbrev pub HasEverySize : RawChain → Type 0
 HasEverySize chain = (start e : ℕ) (list : List ℕ) → chain.end ≡ Loop start list e → (first : RawLink) (rest : List RawLink) → chain.steps ≡ first ∷ rest
     → (w h : ℕ) → 1 ≤ w → 1 ≤ h → HasPattern (fine_of first).tiles w h
+
+-- where the chain is looped, `expand` replies to its text with a valid pattern over its first set, of each width and height from 1 to 4096
+abbrev pub ExpandsToEverySize : List ℕ → RawChain → Type 0
+ExpandsToEverySize bytes chain = (start e : ℕ) (list : List ℕ) → chain.end ≡ Loop start list e → (first : RawLink) (rest : List RawLink) → chain.steps ≡ first ∷ rest
+    → (w h : List ℕ) → 1 ≤ value_from 0 w → value_from 0 w ≤ 4096 → 1 ≤ value_from 0 h → value_from 0 h ≤ 4096
+    → (g : Grid) × IsPatternOf (fine_of first).tiles (value_from 0 w) (value_from 0 h) g × (expand_reply w h bytes ≡ Answered (bytes_of (pattern_lines g)))
 
 -- the bytes are those of a chain of which this holds
 abbrev pub IsChainThat : (RawChain → Type 0) → List ℕ → Type 0

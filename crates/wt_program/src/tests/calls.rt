@@ -1,17 +1,20 @@
 // What the crates below answer over worked certificates.
-use crate::tests::ONE_STEP;
 use crate::tests::certificates::{CU, S2, S3, S7};
+use crate::tests::{ONE_STEP, words_of};
+use crate::top::wang;
 use std::alloc::Global;
 use std::test::Fail;
 use wt_cert::read_cert;
 use wt_chain::Accepted;
 use wt_check::check;
 use wt_expand::{RowExpander, RowFault, TurnFault, expand, turn};
+use wt_io::{MemSink, PlainSource};
 use wt_morphism::{Morphism, apply};
 use wt_pattern::{Fault, Pattern, core, part, period_fault, tiles_fault, valid};
 use wt_scale::{SizeFault, size_for};
 use wt_step::{Coarse, DesubFault, LinkRef, RawStep, carry_period, desubstitute, has_room};
 use wt_tile::Axis;
+use wt_write::push_row;
 
 /// The width, the height and the cells, the bottom row first.
 type Cells = (usize, usize, &'static [u16]);
@@ -285,5 +288,30 @@ fn puts_together_what_it_took_apart(rt: HostRuntime) -> Result<(), Fail> {
     let link = step_of(&chain, 0).ok_or("step")?;
     let p = expand(alloc, &chain, 300, 300)?;
     assert_eq!(rt; is_put_together(alloc, link, &p), Some(true));
+    Ok(())
+}
+
+/// The text of the top row of the pick of so many cells each way.
+fn top_row(alloc: Global, chain: &Accepted, side: usize) -> Option<Vec<u8>> {
+    let mut space = vec![in alloc; 0u16; 213_444].ok()?;
+    let mut rows = RowExpander::new(chain, side, side, &mut space).ok()?;
+    let mut row = vec![in alloc; 0u16; side].ok()?;
+    rows.next_row(&mut row);
+    let mut text = Vec::new(alloc);
+    push_row(&mut text, &row).ok()?;
+    Some(text)
+}
+
+#[test]
+fn stops_within_a_row_at_a_write_fault(rt: HostRuntime) -> Result<(), Fail> {
+    let alloc = rt.alloc();
+    let words = words_of(alloc, "expand 4096 4096")?;
+    let mut src = PlainSource::new(CU.as_bytes().to_vec(alloc)?);
+    let mut sink = MemSink::new(alloc, 8192, 4096, [1].to_vec(alloc)?)?;
+    assert_eq!(rt; wang(alloc, &words, &mut src, &mut sink), 4);
+    let chain = chain_of(alloc, CU).ok_or("chain")?;
+    let row = top_row(alloc, &chain, 4096).ok_or("row")?;
+    assert_eq!(rt; sink.held().len(), 4096);
+    assert!(rt; row.starts_with(sink.held()));
     Ok(())
 }
