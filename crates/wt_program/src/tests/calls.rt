@@ -1,5 +1,5 @@
 // What the crates below answer over worked certificates.
-use crate::tests::certificates::{CU, S2, S3, S7};
+use crate::tests::certificates::{S2, S3, S7, cu};
 use crate::tests::{ONE_STEP, words_of};
 use crate::top::wang;
 use std::alloc::Global;
@@ -159,9 +159,9 @@ fn counts_periods_in_blocks(rt: HostRuntime) -> Result<(), Fail> {
 #[test]
 fn sizes_for_vectors(rt: HostRuntime) -> Result<(), Fail> {
     let rows = [
-        (CU, 1, 0, Ok(108)),
-        (CU, 3, -2, Ok(2300)),
-        (CU, 0, 0, Err(SizeFault::ZeroVector)),
+        (cu(), 1, 0, Ok(108)),
+        (cu(), 3, -2, Ok(2300)),
+        (cu(), 0, 0, Err(SizeFault::ZeroVector)),
         (ONE_STEP, 0, 0, Err(SizeFault::OpenChain)),
     ];
     for (text, dx, dy, want) in rows {
@@ -174,13 +174,13 @@ fn sizes_for_vectors(rt: HostRuntime) -> Result<(), Fail> {
 #[test]
 fn tells_the_space_it_needs(rt: HostRuntime) -> Result<(), Fail> {
     let rows = [
-        (CU, 4096, 4096, 0, RowFault::Space { need: 213_444 }),
-        (CU, 1, 1, 260, RowFault::Space { need: 261 }),
+        (cu(), 4096, 4096, 0, RowFault::Space { need: 213_444 }),
+        (cu(), 1, 1, 260, RowFault::Space { need: 261 }),
         (ONE_STEP, 0, 0, 0, RowFault::OpenChain),
-        (CU, 0, 1, 0, RowFault::Width),
-        (CU, 4097, 1, 0, RowFault::Width),
-        (CU, 1, 0, 0, RowFault::Height),
-        (CU, 1, 4097, 0, RowFault::Height),
+        (cu(), 0, 1, 0, RowFault::Width),
+        (cu(), 4097, 1, 0, RowFault::Width),
+        (cu(), 1, 0, 0, RowFault::Height),
+        (cu(), 1, 4097, 0, RowFault::Height),
     ];
     for (text, w, h, room, want) in rows {
         let chain = chain_of(rt.alloc(), text).ok_or("chain")?;
@@ -218,7 +218,7 @@ fn gives_rows_from_the_top(rt: HostRuntime) -> Result<(), Fail> {
     let two: [&[u16]; 2] = [&[4, 1], &[13, 9]];
     let three: [&[u16]; 3] = [&[15, 8, 16], &[7, 1, 2], &[13, 9, 14]];
     let alloc = rt.alloc();
-    let chain = chain_of(alloc, CU).ok_or("chain")?;
+    let chain = chain_of(alloc, cu()).ok_or("chain")?;
     assert_eq!(rt; gives_rows(alloc, &chain, 5, &five), Some(true));
     assert_eq!(rt; gives_rows(alloc, &chain, 1, &one), Some(true));
     assert_eq!(rt; gives_rows(alloc, &chain, 2, &two), Some(true));
@@ -229,9 +229,9 @@ fn gives_rows_from_the_top(rt: HostRuntime) -> Result<(), Fail> {
 #[test]
 fn turns_tiles(rt: HostRuntime) -> Result<(), Fail> {
     let rows: [(&str, u16, Result<Cells, TurnFault>); 4] = [
-        (CU, 0, Ok((1, 1, &[17]))),
-        (CU, 16, Ok((2, 2, &[18, 10, 5, 1]))),
-        (CU, 19, Err(TurnFault::NoTile)),
+        (cu(), 0, Ok((1, 1, &[17]))),
+        (cu(), 16, Ok((2, 2, &[18, 10, 5, 1]))),
+        (cu(), 19, Err(TurnFault::NoTile)),
         (ONE_STEP, 0, Err(TurnFault::OpenChain)),
     ];
     for (text, tile, want) in &rows {
@@ -284,7 +284,7 @@ fn is_put_together(alloc: Global, link: LinkRef<'_>, p: &Pattern) -> Option<bool
 #[test]
 fn puts_together_what_it_took_apart(rt: HostRuntime) -> Result<(), Fail> {
     let alloc = rt.alloc();
-    let chain = chain_of(alloc, CU).ok_or("chain")?;
+    let chain = chain_of(alloc, cu()).ok_or("chain")?;
     let link = step_of(&chain, 0).ok_or("step")?;
     let p = expand(alloc, &chain, 300, 300)?;
     assert_eq!(rt; is_put_together(alloc, link, &p), Some(true));
@@ -306,10 +306,10 @@ fn top_row(alloc: Global, chain: &Accepted, side: usize) -> Option<Vec<u8>> {
 fn stops_within_a_row_at_a_write_fault(rt: HostRuntime) -> Result<(), Fail> {
     let alloc = rt.alloc();
     let words = words_of(alloc, "expand 4096 4096")?;
-    let mut src = PlainSource::new(CU.as_bytes().to_vec(alloc)?);
+    let mut src = PlainSource::new(cu().as_bytes().to_vec(alloc)?);
     let mut sink = MemSink::new(alloc, 8192, 4096, [1].to_vec(alloc)?)?;
     assert_eq!(rt; wang(alloc, &words, &mut src, &mut sink), 4);
-    let chain = chain_of(alloc, CU).ok_or("chain")?;
+    let chain = chain_of(alloc, cu()).ok_or("chain")?;
     let row = top_row(alloc, &chain, 4096).ok_or("row")?;
     assert_eq!(rt; sink.held().len(), 4096);
     assert!(rt; row.starts_with(sink.held()));
