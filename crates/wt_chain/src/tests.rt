@@ -137,11 +137,3 @@ fn closes_no_loop_that_does_not_grow(rt: HostRuntime) -> Result<(), Fail> {
     assert_eq!(rt; refusal, Refusal::Expansion { tile: 0 });
     Ok(())
 }
-
-#[test]
-fn finds_no_expansion_where_none_serves(rt: HostRuntime) -> Result<(), Fail> {
-    let link = accept_link(renamed_step(rt.alloc())?).ok().ok_or("step")?;
-    let chain = Chain::start(rt.alloc(), link).ok().ok_or("start")?;
-    assert_eq!(rt; chain.expansion(0, &[0, 2, 1]), None);
-    Ok(())
-}
