@@ -202,34 +202,27 @@ fn misses_the_next_line(rt: HostRuntime) -> Result<(), Fail> {
     Ok(())
 }
 
-/// The first lines of a text, with their newlines.
-fn first_lines(text: &[u8], count: usize) -> &[u8] {
-    let mut seen = 0usize;
-    for (i, byte) in text.iter().enumerate() {
-        if seen == count {
-            return &text[..i];
-        }
-        if *byte == b'\n' {
-            seen += 1;
-        }
-    }
-    text
+/// Whether the front of a text up to a byte misses a line of this number.
+fn is_missed(alloc: Global, text: &[u8], end: usize, line: usize) -> Option<bool> {
+    let read = read_cert(alloc, text.get(..end)?);
+    Some(read.is_err_and(|fault| fault == TextFault::Syntax { line }))
 }
 
 #[test]
 fn misses_the_next_line_of_each(rt: HostRuntime) -> Result<(), Fail> {
     for text in [S2, S3, S4, S5, S6, S7] {
         let text = text.as_bytes();
-        let mut count = 0usize;
-        loop {
-            let front = first_lines(text, count);
-            if front.len() == text.len() {
-                break;
+        let mut line = 1usize;
+        for (i, byte) in text.iter().enumerate() {
+            let end = i.saturating_add(1);
+            if *byte == b'\n' && end < text.len() {
+                line = line.saturating_add(1);
+                assert_eq!(rt;
+                    is_missed(rt.alloc(), text, end, line),
+                    Some(true),
+                    "{line}"
+                );
             }
-            let want = TextFault::Syntax { line: count + 1 };
-            let read = read_cert(rt.alloc(), front);
-            assert!(rt; read.is_err_and(|fault| fault == want), "{count}");
-            count += 1;
         }
     }
     Ok(())
