@@ -125,7 +125,11 @@ fn branches_within(
     ensures nodes { IfOk result (λ x. x.1 ≡ nodes + count_in (led_by (map child_view x.0) no_more)) }
     ensures room { IfOk result (λ x. x.1 ≤ 1048576) }
 {
-    let mut children = Items::new(alloc);
+    // Most nodes have few children, so room for more than there are would be most of a tree's memory.
+    let Ok(room) = Vec::with_capacity(alloc, usize::from(count)) else {
+        return Err(LineFault::OutOfMemory);
+    };
+    let mut children = Items::from_vec(room);
     let mut total = nodes;
     let mut left = rest;
     for _ in 0..count {
