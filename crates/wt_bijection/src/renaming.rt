@@ -1,7 +1,8 @@
 // The first number of a list that spoils it as a renaming.
 ghost use Rattle.std.specs.Prelude.{◌≡◌, ◌<◌, ◌≤◌, nat_eq, length, None, Some, MatchResult, IfSome, IfErr};
 ghost use Rattle.wt_grid.specs.Order.{has};
-ghost use Rattle.wt_bijection.specs.Renaming.{pairs_up, tiles_pair_up, colours_fit as fit_colours, partner_fits as fits_partner, first_wrong, renaming_fault as first_fault};
+ghost use Rattle.wt_bijection.specs.Renaming.{pairs_up, tiles_pair_up, first_wrong};
+ghost use Rattle.wt_bijection.specs.Renaming as spec;
 
 use wt_tile::{SetRef, Tile, tile_at};
 
@@ -42,7 +43,7 @@ fn is_among(number: u16, numbers: &[u16]) -> bool
 fn colours_fit(from: &[Tile], to: &[Tile], list: &[u16], i: u16) -> bool
     requires inside { i < length list.now }
     requires small { i < 256 }
-    ensures { result ≡ fit_colours from.now to.now list.now i }
+    ensures { result ≡ spec.colours_fit from.now to.now list.now i }
 {
     for j in 0..i + 1 {
         let tile = tile_at(from, i);
@@ -62,7 +63,7 @@ fn colours_fit(from: &[Tile], to: &[Tile], list: &[u16], i: u16) -> bool
 fn partner_fits(from: &[Tile], to: &[Tile], list: &[u16], i: u16) -> bool
     requires inside { i < length list.now }
     requires small { i < 256 }
-    ensures { result ≡ fits_partner from.now to.now list.now i }
+    ensures { result ≡ spec.partner_fits from.now to.now list.now i }
 {
     let partner = list[usize::from(i)];
     usize::from(partner) < to.len()
@@ -90,8 +91,8 @@ fn wrong_number(from: &[Tile], to: &[Tile], list: &[u16]) -> Option<usize>
 #[tactic(auto, unfolding(crate::specs::Renaming::renaming_fault))]
 pub fn check_renaming(from: SetRef<'_>, to: SetRef<'_>, list: &[u16]) -> Result<(), usize>
     ensures exact { MatchResult result
-        (λ _. first_fault from.entry.list.now.tiles to.entry.list.now.tiles list.now ≡ None)
-        (λ i. first_fault from.entry.list.now.tiles to.entry.list.now.tiles list.now ≡ Some i) }
+        (λ _. spec.renaming_fault from.entry.list.now.tiles to.entry.list.now.tiles list.now ≡ None)
+        (λ i. spec.renaming_fault from.entry.list.now.tiles to.entry.list.now.tiles list.now ≡ Some i) }
     ensures small { IfErr result (λ i. i ≤ 256) }
 {
     let from = from.tiles();

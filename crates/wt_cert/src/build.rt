@@ -1,6 +1,6 @@
 // The tree of a line whose form is right, within its limits.
 ghost use Rattle.std.specs.Prelude.{◌≡◌, ◌≤◌, ◌+◌, IfOk, map};
-ghost use Rattle.wt_text.specs.Words.{number as number_of};
+ghost use Rattle.wt_text.specs.Words as spec;
 ghost use Rattle.wt_line.specs.Given.{left};
 ghost use Rattle.wt_line.specs.Faults.{ReadsLine};
 ghost use Rattle.wt_line.specs.declared.faults.What.TheVariants.{Number};
@@ -28,7 +28,7 @@ pub enum Ending {
 }
 
 fn small_number(token: &[u8]) -> Result<u16, LineFault>
-    ensures { ReadsLine (λ x. x) result (limited 65535 Number (number_of token.now)) }
+    ensures { ReadsLine (λ x. x) result (limited 65535 Number (spec.number token.now)) }
 {
     let Some(value) = number(token) else {
         return Err(LineFault::Wrong);

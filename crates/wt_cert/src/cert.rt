@@ -4,7 +4,8 @@ ghost use Rattle.wt_line.specs.Faults.{ReadsText};
 ghost use Rattle.wt_text.specs.Lines.{lines};
 ghost use Rattle.wt_text.specs.Readers.{one_line, many_parts, left_by, whole_text};
 ghost use Rattle.wt_cert.specs.LineForms.{version_form, steps_form, head_form, end_form};
-ghost use Rattle.wt_cert.specs.Parts.{marker_part, restrict_part, block_part, link_part as link_text, with_link, next_step, steps_part, end_part, chain_part, cert_part};
+ghost use Rattle.wt_cert.specs.Parts.{marker_part, restrict_part, block_part, with_link, next_step, steps_part, end_part, chain_part, cert_part};
+ghost use Rattle.wt_cert.specs.Parts as spec;
 ghost use Rattle.wt_cert.specs.Seen.{at, head_view, end_view, link_at_step};
 
 use crate::heads::{EndLine, Head, end_row, head_row, steps_row, version_row};
@@ -129,7 +130,7 @@ fn link_at<'a>(
     place: Place<'a>,
 ) -> Result<(RawLink, u32, Place<'a>), TextFault>
     requires { nodes ≤ 1048576 }
-    ensures read { ReadsText (λ x. (x.0, at x.2)) result (link_text version k nodes (at place.entry)) }
+    ensures read { ReadsText (λ x. (x.0, at x.2)) result (spec.link_part version k nodes (at place.entry)) }
     ensures nodes { IfOk result (λ x. x.1 ≡ with_link nodes x.0) }
     ensures room { IfOk result (λ x. x.1 ≤ 1048576) }
 {

@@ -4,7 +4,8 @@ ghost use Rattle.wt_line.specs.Faults.{ReadsText};
 ghost use Rattle.wt_text.specs.Readers.{one_line, many_parts, left_by};
 ghost use Rattle.wt_pattern.specs.TileRows.{no_state};
 ghost use Rattle.wt_cert.specs.LineForms.{alone_form, count_form, allowed_form, pair_form, image_form};
-ghost use Rattle.wt_cert.specs.Parts.{tiles_part, numbers_part, allowed_part, refuted_row as refuted_line, with_refuted, refuted_part, lost_row as lost_line, with_lost, lost_part, images_part};
+ghost use Rattle.wt_cert.specs.Parts.{tiles_part, numbers_part, allowed_part, with_refuted, refuted_part, with_lost, lost_part, images_part};
+ghost use Rattle.wt_cert.specs.Parts as spec;
 ghost use Rattle.wt_cert.specs.Seen.{at};
 
 use crate::heads::{allowed_row, alone_row, count_row};
@@ -84,7 +85,7 @@ fn refuted_at<'a>(
     nodes: u32,
     place: Place<'a>,
 ) -> Result<(Refuted, u32, Place<'a>), TextFault>
-    ensures read { ReadsText (λ x. (x.0, at x.2)) result (refuted_line version radius nodes (at place.entry)) }
+    ensures read { ReadsText (λ x. (x.0, at x.2)) result (spec.refuted_row version radius nodes (at place.entry)) }
     ensures nodes { IfOk result (λ x. x.1 ≡ with_refuted nodes x.0) }
     ensures room { IfOk result (λ x. x.1 ≤ 1048576) }
 {
@@ -102,7 +103,7 @@ fn lost_at<'a>(
     nodes: u32,
     place: Place<'a>,
 ) -> Result<(Lost, u32, Place<'a>), TextFault>
-    ensures read { ReadsText (λ x. (x.0, at x.2)) result (lost_line nodes (at place.entry)) }
+    ensures read { ReadsText (λ x. (x.0, at x.2)) result (spec.lost_row nodes (at place.entry)) }
     ensures nodes { IfOk result (λ x. x.1 ≡ with_lost nodes x.0) }
     ensures room { IfOk result (λ x. x.1 ≤ 1048576) }
 {
@@ -205,7 +206,7 @@ fn refuted_rows<'a>(
     place: Place<'a>,
 ) -> Result<(Vec<Refuted>, u32, Place<'a>), TextFault>
     requires { nodes ≤ 1048576 }
-    ensures read { ReadsText (λ x. (x.0.items, at x.2)) result (many_parts (refuted_line version radius) with_refuted nodes count (at place.entry)) }
+    ensures read { ReadsText (λ x. (x.0.items, at x.2)) result (many_parts (spec.refuted_row version radius) with_refuted nodes count (at place.entry)) }
     ensures nodes { IfOk result (λ x. x.1 ≡ left_by with_refuted nodes x.0.items) }
     ensures room { IfOk result (λ x. x.1 ≤ 1048576) }
 {
@@ -247,7 +248,7 @@ fn lost_rows<'a>(
     place: Place<'a>,
 ) -> Result<(Vec<Lost>, u32, Place<'a>), TextFault>
     requires { nodes ≤ 1048576 }
-    ensures read { ReadsText (λ x. (x.0.items, at x.2)) result (many_parts lost_line with_lost nodes count (at place.entry)) }
+    ensures read { ReadsText (λ x. (x.0.items, at x.2)) result (many_parts spec.lost_row with_lost nodes count (at place.entry)) }
     ensures nodes { IfOk result (λ x. x.1 ≡ left_by with_lost nodes x.0.items) }
     ensures room { IfOk result (λ x. x.1 ≤ 1048576) }
 {

@@ -5,7 +5,8 @@ ghost use Rattle.wt_line.specs.declared.faults.LineFault.TheVariants.{OutOfMemor
 ghost use Rattle.wt_line.specs.Given.{left};
 ghost use Rattle.wt_line.specs.Faults.{ReadsTokens, ReadsLine};
 ghost use Rattle.wt_text.specs.Words.{tokens};
-ghost use Rattle.wt_text.specs.Readers.{mapped, numbers_to, counted_numbers as counted_form};
+ghost use Rattle.wt_text.specs.Readers.{mapped, numbers_to};
+ghost use Rattle.wt_text.specs.Readers as spec;
 ghost use Rattle.wt_cert.specs.LineForms.{numbers_form};
 ghost use Rattle.wt_cert.specs.Seen.{with_number};
 
@@ -54,7 +55,7 @@ fn numbers_to_end(alloc: Global, rest: Rest<'_>) -> Result<(Result<Vec<u16>, Wha
 
 /// A count, and so many numbers to the end of the line.
 fn counted_numbers(alloc: Global, rest: Rest<'_>) -> Result<Result<Vec<u16>, What>, LineFault>
-    ensures { ReadsTokens (λ x. (mapped (λ v. v.items) x, [])) result (counted_form 256 Tiles 65535 Number (left rest.entry.more rest.entry.line.now)) }
+    ensures { ReadsTokens (λ x. (mapped (λ v. v.items) x, [])) result (spec.counted_numbers 256 Tiles 65535 Number (left rest.entry.more rest.entry.line.now)) }
 {
     let Some((token, rest)) = next_token(rest) else {
         return Err(LineFault::Wrong);

@@ -6,10 +6,11 @@ ghost use Rattle.wt_refute.specs.Refutation.{node_count};
 ghost use Rattle.wt_refute.specs.View.{refutation};
 ghost use Rattle.wt_text.specs.Words.{tokens};
 ghost use Rattle.wt_text.specs.Readers.{mapped};
-ghost use Rattle.wt_cert.specs.LineForms.{may_cite as may_cite_in, radius_in as radius_form, pair_form, refuted_form, lost_form, image_form};
+ghost use Rattle.wt_cert.specs.LineForms.{pair_form, refuted_form, lost_form, image_form};
+ghost use Rattle.wt_cert.specs.LineForms as line_forms;
 ghost use Rattle.wt_cert.specs.Parts.{with_refuted, with_lost};
 ghost use Rattle.wt_cert.specs.Seen.{refuted_view, lost_view};
-ghost use Rattle.wt_cert.specs.Trees.{tree_to_end as tree_form_to_end};
+ghost use Rattle.wt_cert.specs.Trees as trees;
 
 use crate::build::tree_within;
 use crate::forms::tree_form;
@@ -57,7 +58,7 @@ pub fn image_row(line: &[u8]) -> Result<Image, LineFault>
 
 /// Only trees of version two cite.
 fn may_cite(version: Version) -> bool
-    ensures { result ≡ may_cite_in version }
+    ensures { result ≡ line_forms.may_cite version }
 {
     match version {
         Version::One => false,
@@ -71,7 +72,7 @@ fn radius_in(
     given: u8,
     rest: Rest<'_>,
 ) -> Result<(Result<u8, What>, Rest<'_>), LineFault>
-    ensures { ReadsTokens (λ x. (x.0, left x.1.more x.1.line.now)) result (radius_form version given (left rest.entry.more rest.entry.line.now)) }
+    ensures { ReadsTokens (λ x. (x.0, left x.1.more x.1.line.now)) result (line_forms.radius_in version given (left rest.entry.more rest.entry.line.now)) }
 {
     match version {
         Version::One => Ok((Ok(given), rest)),
@@ -87,7 +88,7 @@ fn tree_to_end(
     nodes: u32,
     rest: Rest<'_>,
 ) -> Result<(Result<Grown, What>, Rest<'_>), LineFault>
-    ensures read { ReadsTokens (λ x. (mapped (λ g. refutation g.tree) x.0, left x.1.more x.1.line.now)) result (tree_form_to_end citing nodes (left rest.entry.more rest.entry.line.now)) }
+    ensures read { ReadsTokens (λ x. (mapped (λ g. refutation g.tree) x.0, left x.1.more x.1.line.now)) result (trees.tree_to_end citing nodes (left rest.entry.more rest.entry.line.now)) }
     ensures nodes { IfOk result (λ x. IfOk x.0 (λ g. g.nodes ≡ nodes + node_count (refutation g.tree))) }
     ensures room { IfOk result (λ x. IfOk x.0 (λ g. g.nodes ≤ 1048576)) }
 {

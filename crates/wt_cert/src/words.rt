@@ -4,7 +4,7 @@ ghost use Rattle.std.specs.Fmt.{decimal};
 ghost use Rattle.wt_line.specs.Given.{left, room};
 ghost use Rattle.wt_line.specs.Faults.{ReadsTokens};
 ghost use Rattle.wt_text.specs.Readers.{after};
-ghost use Rattle.wt_cert.specs.LineForms.{small as small_form, radius as radius_form, axis as axis_form, side as side_form};
+ghost use Rattle.wt_cert.specs.LineForms as spec;
 
 use wt_line::{LineFault, Rest, What, next_token, number, number_to};
 use wt_tile::{Axis, Side};
@@ -16,7 +16,7 @@ const MAX_RADIUS: u32 = 4;
 /// A number that has no limit of its own.
 pub fn small(rest: Rest<'_>) -> Result<(Result<u16, What>, Rest<'_>), LineFault>
     ensures fewer { IfOk result (λ x. room x.1.more x.1.line.now < room rest.entry.more rest.entry.line.now) }
-    ensures read { ReadsTokens (λ x. (x.0, left x.1.more x.1.line.now)) result (small_form (left rest.entry.more rest.entry.line.now)) }
+    ensures read { ReadsTokens (λ x. (x.0, left x.1.more x.1.line.now)) result (spec.small (left rest.entry.more rest.entry.line.now)) }
 {
     let (value, rest) = number_to(MOST, What::Number, rest)?;
     match value {
@@ -26,7 +26,7 @@ pub fn small(rest: Rest<'_>) -> Result<(Result<u16, What>, Rest<'_>), LineFault>
 }
 
 pub fn radius(rest: Rest<'_>) -> Result<(Result<u8, What>, Rest<'_>), LineFault>
-    ensures { ReadsTokens (λ x. (x.0, left x.1.more x.1.line.now)) result (radius_form (left rest.entry.more rest.entry.line.now)) }
+    ensures { ReadsTokens (λ x. (x.0, left x.1.more x.1.line.now)) result (spec.radius (left rest.entry.more rest.entry.line.now)) }
 {
     let (value, rest) = number_to(MAX_RADIUS, What::Radius, rest)?;
     match value {
@@ -37,7 +37,7 @@ pub fn radius(rest: Rest<'_>) -> Result<(Result<u8, What>, Rest<'_>), LineFault>
 
 /// An axis, `1` or `2`.
 pub fn axis(rest: Rest<'_>) -> Result<(Axis, Rest<'_>), LineFault>
-    ensures { ReadsTokens (λ x. (Ok x.0, left x.1.more x.1.line.now)) result (axis_form (left rest.entry.more rest.entry.line.now)) }
+    ensures { ReadsTokens (λ x. (Ok x.0, left x.1.more x.1.line.now)) result (spec.axis (left rest.entry.more rest.entry.line.now)) }
 {
     let Some((token, rest)) = next_token(rest) else {
         return Err(LineFault::Wrong);
@@ -53,7 +53,7 @@ pub fn axis(rest: Rest<'_>) -> Result<(Axis, Rest<'_>), LineFault>
 
 /// A side, `after` or `before`.
 pub fn side(rest: Rest<'_>) -> Result<(Side, Rest<'_>), LineFault>
-    ensures { ReadsTokens (λ x. (Ok x.0, left x.1.more x.1.line.now)) result (side_form (left rest.entry.more rest.entry.line.now)) }
+    ensures { ReadsTokens (λ x. (Ok x.0, left x.1.more x.1.line.now)) result (spec.side (left rest.entry.more rest.entry.line.now)) }
 {
     let Some((token, rest)) = next_token(rest) else {
         return Err(LineFault::Wrong);

@@ -4,7 +4,7 @@ ghost use Rattle.wt_chain.specs.declared.raw.End.TheVariants.{Open};
 ghost use Rattle.wt_chain.specs.declared.raw.Version.TheVariants.{Two};
 ghost use Rattle.wt_step.specs.Views.{link_of};
 ghost use Rattle.wt_chain.specs.Sets.{set_at};
-ghost use Rattle.wt_chain.specs.Faults.{chain_fault as first_fault};
+ghost use Rattle.wt_chain.specs.Faults as spec;
 
 use crate::copy::copy_chain;
 use crate::faults::chain_fault;
@@ -40,8 +40,8 @@ impl Accepted {
     /// Takes a good chain, or tells its first failing condition. Takes no memory.
     pub fn new(raw: RawChain) -> Result<Accepted, (RawChain, Refusal)>
         ensures { MatchResult result
-            (λ chain. (chain ≡ raw) × (first_fault raw ≡ None))
-            (λ e. (e.0 ≡ raw) × (first_fault raw ≡ Some e.1)) }
+            (λ chain. (chain ≡ raw) × (spec.chain_fault raw ≡ None))
+            (λ e. (e.0 ≡ raw) × (spec.chain_fault raw ≡ Some e.1)) }
     {
         match chain_fault(&raw) {
             None => Ok(Accepted { raw }),
@@ -51,7 +51,7 @@ impl Accepted {
 
     /// A chain that is known to be good. Takes no memory.
     pub(crate) fn of(raw: RawChain) -> Accepted
-        requires { first_fault raw ≡ None }
+        requires { spec.chain_fault raw ≡ None }
         ensures { result ≡ raw }
     {
         Accepted { raw }
@@ -97,14 +97,14 @@ impl Accepted {
     /// The chain, borrowed as it was read.
     pub fn raw(&self) -> &RawChain
         ensures value { result.now ≡ self.now }
-        ensures good { first_fault self.now ≡ None }
+        ensures good { spec.chain_fault self.now ≡ None }
     {
         &self.raw
     }
 
     pub fn into_raw(self) -> RawChain
         ensures same { result ≡ self }
-        ensures good { first_fault result ≡ None }
+        ensures good { spec.chain_fault result ≡ None }
     {
         self.raw
     }

@@ -1,11 +1,12 @@
 // Chains that are being put together.
 ghost use Rattle.std.specs.Prelude.{◌≡◌, ◌∷◌, ◌++◌, ◌≢◌, ℕ, [], drop, None, Some, MatchResult, IfOk, IfErr, unwrap_or};
 ghost use Rattle.wt_chain.specs.declared.raw.End.TheVariants.{Open, Loop};
-ghost use Rattle.wt_chain.specs.declared.push.PushFault.TheVariants.{OutOfMemory as NoMemory};
-ghost use Rattle.wt_chain.specs.Versions.{version_of as version_for, one_more};
-ghost use Rattle.wt_chain.specs.Faults.{end_fault as first_end, chain_fault as first_fault, least_expansion as least, growth_fault as first_growth};
+ghost use Rattle.wt_chain.specs.declared.push.PushFault.TheVariants as push_fault_variants;
+ghost use Rattle.wt_chain.specs.Versions.{one_more};
+ghost use Rattle.wt_chain.specs.Versions as versions;
+ghost use Rattle.wt_chain.specs.Faults as fault_words;
 ghost use Rattle.wt_chain.specs.Sets.{IsRenamed, first_count};
-ghost use Rattle.wt_chain.specs.Chains.{push_fault as fault_of_push};
+ghost use Rattle.wt_chain.specs.Chains as chains;
 
 use crate::faults::{loop_expansion, loop_fault, steps_from};
 use crate::sets::{follows, set_behind_all};
@@ -56,7 +57,7 @@ fn next_version(version: Version, link: &RawLink) -> Version
 }
 
 fn push_fault(steps: &[RawLink], link: &Link) -> Option<PushFault>
-    ensures { result ≡ fault_of_push steps.now link.now }
+    ensures { result ≡ chains.push_fault steps.now link.now }
 {
     if !follows(set_behind_all(steps), link.view().fine().list()) {
         return Some(PushFault::NotNext);
@@ -88,9 +89,9 @@ impl Chain {
     /// The chain with one step more. `NotNext` comes exactly where the step doesn't take apart the chain's last set, colours and names included; `TooMany` exactly where it does and 32 steps are held; else want of memory. The chain and the step come back.
     pub fn push_step(self, link: Link) -> Result<Chain, (Chain, Link, PushFault)>
         ensures ok { IfOk result
-            (λ chain. (fault_of_push self link ≡ None) × (chain ≡ self ++ link ∷ [])) }
+            (λ chain. (chains.push_fault self link ≡ None) × (chain ≡ self ++ link ∷ [])) }
         ensures err { IfErr result
-            (λ e. (e.0 ≡ self) × (e.1 ≡ link) × (e.2 ≡ unwrap_or (fault_of_push self link) NoMemory)) }
+            (λ e. (e.0 ≡ self) × (e.1 ≡ link) × (e.2 ≡ unwrap_or (chains.push_fault self link) push_fault_variants.OutOfMemory)) }
     {
         match push_fault(&self.steps, &link) {
             Some(fault) => Err((self, link, fault)),
@@ -99,9 +100,9 @@ impl Chain {
     }
 
     fn push_next(mut self, link: Link) -> Result<Chain, (Chain, Link, PushFault)>
-        requires { fault_of_push self link ≡ None }
+        requires { chains.push_fault self link ≡ None }
         ensures ok { IfOk result (λ chain. chain ≡ self ++ link ∷ []) }
-        ensures err { IfErr result (λ e. (e.0 ≡ self) × (e.1 ≡ link) × (e.2 ≡ NoMemory)) }
+        ensures err { IfErr result (λ e. (e.0 ≡ self) × (e.1 ≡ link) × (e.2 ≡ push_fault_variants.OutOfMemory)) }
     {
         if self.steps.reserve(1).is_err() {
             return Err((self, link, PushFault::OutOfMemory));
@@ -121,9 +122,9 @@ impl Chain {
         renaming: Vec<u16>,
         expansion: u32,
     ) -> Result<Accepted, (Chain, Vec<u16>, Refusal)>
-        ensures ok { IfOk result (λ chain. (first_end self (Loop start renaming.items expansion) ≡ None)
-            × (chain ≡ record { version = version_for self; steps = self; end = Loop start renaming.items expansion })) }
-        ensures err { IfErr result (λ e. (first_end self (Loop start renaming.items expansion) ≡ Some e.2)
+        ensures ok { IfOk result (λ chain. (fault_words.end_fault self (Loop start renaming.items expansion) ≡ None)
+            × (chain ≡ record { version = versions.version_of self; steps = self; end = Loop start renaming.items expansion })) }
+        ensures err { IfErr result (λ e. (fault_words.end_fault self (Loop start renaming.items expansion) ≡ Some e.2)
             × (e.0 ≡ self) × (e.1.items ≡ renaming.items)) }
     {
         match loop_fault(steps_from(&self.steps, start), &renaming, expansion) {
@@ -143,16 +144,16 @@ impl Chain {
     /// The least number of turns, at least 1 and at most the number of tiles of level `start`, after which the image of each tile there is at least two wide and two high; where there is none, no greater number serves either. The renaming carries the last set onto that of level `start`. Takes no memory.
     pub fn expansion(&self, start: u16, renaming: &[u16]) -> Option<u32>
         requires { IsRenamed (drop start self.now) renaming.now }
-        ensures value { result ≡ least (drop start self.now) renaming.now (first_count (drop start self.now)) }
+        ensures value { result ≡ fault_words.least_expansion (drop start self.now) renaming.now (first_count (drop start self.now)) }
         ensures never { result ≡ None → (turns : ℕ)
-            → first_growth (drop start self.now) renaming.now turns (first_count (drop start self.now)) ≢ None }
+            → fault_words.growth_fault (drop start self.now) renaming.now turns (first_count (drop start self.now)) ≢ None }
     {
         loop_expansion(steps_from(&self.steps, start), renaming)
     }
 
     /// The chain of a good chain's steps.
     pub(crate) fn of(raw: RawChain) -> Chain
-        requires { first_fault raw ≡ None }
+        requires { fault_words.chain_fault raw ≡ None }
         ensures { result ≡ raw.steps }
     {
         let version = version_of(raw.steps.as_slice());
@@ -164,7 +165,7 @@ impl Chain {
 
     /// The chain as an open one. Takes no memory.
     pub fn finish(self) -> Accepted
-        ensures { result ≡ record { version = version_for self; steps = self; end = Open } }
+        ensures { result ≡ record { version = versions.version_of self; steps = self; end = Open } }
     {
         Accepted::of(RawChain {
             version: self.version,

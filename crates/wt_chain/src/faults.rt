@@ -2,7 +2,7 @@
 ghost use Rattle.std.specs.Prelude.{◌≡◌, ◌∷◌, drop, None, Some, option_map};
 ghost use Rattle.wt_step.specs.Links.{fine_of};
 ghost use Rattle.wt_chain.specs.Sets.{AreLinked, IsRun, Closes, first_count};
-ghost use Rattle.wt_chain.specs.Faults.{size_fault as first_size, step_fault_at as fault_of_step, steps_fault as first_step, loop_fault as first_loop, end_fault as first_end, chain_fault as first_fault, least_expansion as least};
+ghost use Rattle.wt_chain.specs.Faults as spec;
 
 use crate::growth::{growth_fault, least_expansion};
 use crate::sets::{coarse_set, fine_set, follows, last_set};
@@ -13,7 +13,7 @@ use wt_step::{RawLink, link_fault};
 use wt_tile::{SetRef, TileList};
 
 fn size_fault(raw: &RawChain) -> Option<Refusal>
-    ensures { result ≡ first_size raw.now }
+    ensures { result ≡ spec.size_fault raw.now }
 {
     let steps = raw.steps.as_slice();
     if steps.is_empty() {
@@ -30,7 +30,7 @@ fn size_fault(raw: &RawChain) -> Option<Refusal>
 }
 
 fn step_fault_at(k: usize, before: Option<&TileList>, link: &RawLink) -> Option<Refusal>
-    ensures { result ≡ fault_of_step k (option_map (λ set. set.now) before.entry) link.now }
+    ensures { result ≡ spec.step_fault_at k (option_map (λ set. set.now) before.entry) link.now }
 {
     if let Some(fault) = link_fault(link) {
         return Some(Refusal::Step { step: k, fault });
@@ -43,7 +43,7 @@ fn step_fault_at(k: usize, before: Option<&TileList>, link: &RawLink) -> Option<
 }
 
 fn steps_fault(links: &[RawLink]) -> Option<Refusal>
-    ensures { result ≡ first_step links.now }
+    ensures { result ≡ spec.steps_fault links.now }
 {
     let mut before = None;
     for (k, link) in links.iter().enumerate() {
@@ -65,7 +65,7 @@ fn closing_fault(
 ) -> Option<Refusal>
     requires whole { links.now ≡ first.now ∷ others.now }
     requires linked { AreLinked (fine_of first.now) (first.now ∷ others.now) }
-    ensures { result ≡ first_loop (first.now ∷ others.now) renaming.now turns }
+    ensures { result ≡ spec.loop_fault (first.now ∷ others.now) renaming.now turns }
 {
     let from = SetRef::of(last_set(coarse_set(first), others));
     let to = SetRef::of(fine_set(first));
@@ -78,7 +78,7 @@ fn closing_fault(
 /// The first fault of a loop of good steps, of which each takes apart the set before it.
 pub fn loop_fault(links: &[RawLink], renaming: &[u16], turns: u32) -> Option<Refusal>
     requires { IsRun links.now }
-    ensures { result ≡ first_loop links.now renaming.now turns }
+    ensures { result ≡ spec.loop_fault links.now renaming.now turns }
 {
     match links {
         [] => Some(Refusal::Start),
@@ -89,7 +89,7 @@ pub fn loop_fault(links: &[RawLink], renaming: &[u16], turns: u32) -> Option<Ref
 /// The least expansion of a loop whose steps are good and whose renaming has no fault.
 pub fn loop_expansion(links: &[RawLink], renaming: &[u16]) -> Option<u32>
     requires { Closes links.now renaming.now }
-    ensures { result ≡ least links.now renaming.now (first_count links.now) }
+    ensures { result ≡ spec.least_expansion links.now renaming.now (first_count links.now) }
 {
     match links {
         [] => None,
@@ -105,7 +105,7 @@ fn closed_expansion(
 ) -> Option<u32>
     requires whole { links.now ≡ first.now ∷ others.now }
     requires closed { Closes (first.now ∷ others.now) renaming.now }
-    ensures { result ≡ least (first.now ∷ others.now) renaming.now (first_count (first.now ∷ others.now)) }
+    ensures { result ≡ spec.least_expansion (first.now ∷ others.now) renaming.now (first_count (first.now ∷ others.now)) }
 {
     let set = SetRef::of(fine_set(first));
     least_expansion(links, renaming, set.tiles().len() as u16)
@@ -125,7 +125,7 @@ pub fn steps_from(links: &[RawLink], start: u16) -> &[RawLink]
 
 fn end_fault(links: &[RawLink], end: &End) -> Option<Refusal>
     requires { IsRun links.now }
-    ensures { result ≡ first_end links.now end.now }
+    ensures { result ≡ spec.end_fault links.now end.now }
 {
     match end {
         End::Open => None,
@@ -140,7 +140,7 @@ fn end_fault(links: &[RawLink], end: &End) -> Option<Refusal>
 /// The first failing condition of a chain, or none. In this order: 1 to 32 steps; in version one no tree cites, each refutation has its step's radius, and no step restricts; for each step from 0 its own conditions, and that it takes apart the coarse set of the step before it, colours and names included; for a loop that its start is a step, that the renaming carries the last set onto the set there, and that so many turns make the image of each tile there at least two wide and two high. Takes no memory.
 #[tactic(auto, unfolding(crate::specs::Faults::chain_fault))]
 pub fn chain_fault(raw: &RawChain) -> Option<Refusal>
-    ensures { result ≡ first_fault raw.now }
+    ensures { result ≡ spec.chain_fault raw.now }
 {
     if let Some(fault) = size_fault(raw) {
         return Some(fault);

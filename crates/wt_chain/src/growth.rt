@@ -1,10 +1,11 @@
 // How large the images of tiles grow in a loop: tables that say for each tile whether its image is at least two long.
 ghost use Rattle.std.specs.Prelude.{◌≡◌, ◌+◌, ◌<◌, ◌≤◌, length, false, slice_index};
-ghost use Rattle.wt_chain.specs.Growth.{image_of as link_image, is_along as lies_along, origin as origin_of};
+ghost use Rattle.wt_chain.specs.Growth as growth;
 ghost use Rattle.wt_tile.specs.declared.tile.Axis.TheVariants.{One, Two};
 ghost use Rattle.wt_chain.specs.Sets.{Closes, first_count};
-ghost use Rattle.wt_chain.specs.Faults.{small_at as fault_of, first_small as first_fault, growth_fault as first_growth, enough as next_enough, least_expansion as least};
-ghost use Rattle.wt_chain.specs.Tables.{table as table_of, entry as table_entry, grows as grows_at, next_table as next_of, climb as climbed, renamed_table, turns_table};
+ghost use Rattle.wt_chain.specs.Faults as faults;
+ghost use Rattle.wt_chain.specs.Tables.{renamed_table, turns_table};
+ghost use Rattle.wt_chain.specs.Tables as tables;
 
 use crate::Refusal;
 use wt_morphism::Image;
@@ -13,7 +14,7 @@ use wt_tile::{Axis, same_axis};
 
 /// What a coarse tile of a step stands for; a number past the coarse tiles counts as one that stands for tile 0.
 pub fn image_of(link: &RawLink, t: u16) -> Image
-    ensures { result ≡ link_image link.now t }
+    ensures { result ≡ growth.image_of link.now t }
 {
     let t = usize::from(t);
     match link {
@@ -38,7 +39,7 @@ pub fn image_of(link: &RawLink, t: u16) -> Image
 
 /// Whether images of two tiles lie along the axis. Those of a restrict step are single tiles.
 pub fn is_along(axis: Axis, link: &RawLink) -> bool
-    ensures { result ≡ lies_along axis link.now }
+    ensures { result ≡ growth.is_along axis link.now }
 {
     match link {
         RawLink::Marker(step) => same_axis(axis, step.axis),
@@ -47,14 +48,14 @@ pub fn is_along(axis: Axis, link: &RawLink) -> bool
 }
 
 fn entry(rows: &[bool; 256], t: u16) -> bool
-    ensures { result ≡ table_entry rows.now t }
+    ensures { result ≡ tables.entry rows.now t }
 {
     let t = usize::from(t);
     t < 256 && rows[t]
 }
 
 fn grows(axis: Axis, link: &RawLink, rows: &[bool; 256], t: u16) -> bool
-    ensures { result ≡ grows_at axis link.now rows.now t }
+    ensures { result ≡ tables.grows axis link.now rows.now t }
 {
     match image_of(link, t) {
         Image::One(a) => entry(rows, a),
@@ -63,7 +64,7 @@ fn grows(axis: Axis, link: &RawLink, rows: &[bool; 256], t: u16) -> bool
 }
 
 fn next_table(axis: Axis, link: &RawLink, rows: &[bool; 256]) -> [bool; 256]
-    ensures { result ≡ next_of axis link.now rows.now }
+    ensures { result ≡ tables.next_table axis link.now rows.now }
 {
     let mut next = [false; 256];
     for t in 0..256u16 {
@@ -74,7 +75,7 @@ fn next_table(axis: Axis, link: &RawLink, rows: &[bool; 256]) -> [bool; 256]
 
 /// The table of the set behind these steps, from that of the set before them.
 fn climb(axis: Axis, links: &[RawLink], rows: &[bool; 256]) -> [bool; 256]
-    ensures { result ≡ climbed axis links.now rows.now }
+    ensures { result ≡ tables.climb axis links.now rows.now }
 {
     let mut table = *rows;
     for link in links {
@@ -86,7 +87,7 @@ fn climb(axis: Axis, links: &[RawLink], rows: &[bool; 256]) -> [bool; 256]
 /// The tile that a renaming carries onto t, or 0 where none is.
 pub fn origin(renaming: &[u16], t: u16) -> u16
     requires { length renaming.now ≤ 256 }
-    ensures { result ≡ origin_of renaming.now t }
+    ensures { result ≡ growth.origin renaming.now t }
 {
     for (i, partner) in renaming.iter().enumerate() {
         if *partner == t {
@@ -99,7 +100,7 @@ pub fn origin(renaming: &[u16], t: u16) -> u16
 /// For each tile the one that a renaming carries onto it.
 pub fn origins(renaming: &[u16]) -> [u16; 256]
     requires { length renaming.now ≤ 256 }
-    ensures { result ≡ table_of (origin_of renaming.now) }
+    ensures { result ≡ tables.table (growth.origin renaming.now) }
 {
     let mut origins = [0u16; 256];
     for t in 0..256u16 {
@@ -110,13 +111,13 @@ pub fn origins(renaming: &[u16]) -> [u16; 256]
 
 fn origin_entry(origins: &[u16; 256], rows: &[bool; 256], t: usize) -> bool
     requires inside { t < 256 }
-    ensures { result ≡ table_entry rows.now (slice_index origins.now t) }
+    ensures { result ≡ tables.entry rows.now (slice_index origins.now t) }
 {
     entry(rows, origins[t])
 }
 
 fn renamed(renaming: &[u16], origins: &[u16; 256], rows: &[bool; 256]) -> [bool; 256]
-    requires { origins.now ≡ table_of (origin_of renaming.now) }
+    requires { origins.now ≡ tables.table (growth.origin renaming.now) }
     ensures { result ≡ renamed_table renaming.now rows.now }
 {
     let mut next = [false; 256];
@@ -141,7 +142,7 @@ fn turned(axis: Axis, links: &[RawLink], renaming: &[u16], turns: u32) -> [bool;
 }
 
 fn small_at(wide: &[bool; 256], high: &[bool; 256], t: u16) -> Option<Refusal>
-    ensures { result ≡ fault_of wide.now high.now t }
+    ensures { result ≡ faults.small_at wide.now high.now t }
 {
     if entry(wide, t) && entry(high, t) {
         None
@@ -152,7 +153,7 @@ fn small_at(wide: &[bool; 256], high: &[bool; 256], t: u16) -> Option<Refusal>
 
 #[tactic(auto, using(wt_grid::proofs::First::first_more))]
 fn first_small(wide: &[bool; 256], high: &[bool; 256], count: u16) -> Option<Refusal>
-    ensures { result ≡ first_fault wide.now high.now count }
+    ensures { result ≡ faults.first_small wide.now high.now count }
 {
     for t in 0..count {
         if let Some(fault) = small_at(wide, high, t) {
@@ -167,7 +168,7 @@ pub fn growth_fault(links: &[RawLink], renaming: &[u16], turns: u32, count: u16)
     requires closed { Closes links.now renaming.now }
     requires counted { count ≡ first_count links.now }
     requires few { length renaming.now ≤ 256 }
-    ensures { result ≡ first_growth links.now renaming.now turns count }
+    ensures { result ≡ faults.growth_fault links.now renaming.now turns count }
 {
     let few = turns.min(256);
     let wide = turned(Axis::One, links, renaming, few);
@@ -182,8 +183,8 @@ fn next_turn(
     origins: &[u16; 256],
     rows: &[bool; 256],
 ) -> [bool; 256]
-    requires { origins.now ≡ table_of (origin_of renaming.now) }
-    ensures { result ≡ renamed_table renaming.now (climbed axis links.now rows.now) }
+    requires { origins.now ≡ tables.table (growth.origin renaming.now) }
+    ensures { result ≡ renamed_table renaming.now (tables.climb axis links.now rows.now) }
 {
     renamed(renaming, origins, &climb(axis, links, rows))
 }
@@ -201,7 +202,7 @@ fn fault_after(
     requires counted { count ≡ first_count links.now }
     requires widths { wide.now ≡ turns_table One links.now renaming.now turns }
     requires heights { high.now ≡ turns_table Two links.now renaming.now turns }
-    ensures { result ≡ first_growth links.now renaming.now turns count }
+    ensures { result ≡ faults.growth_fault links.now renaming.now turns count }
 {
     first_small(wide, high, count)
 }
@@ -219,7 +220,7 @@ fn enough_after(
     requires counted { count ≡ first_count links.now }
     requires widths { wide.now ≡ turns_table One links.now renaming.now (turn + 1) }
     requires heights { high.now ≡ turns_table Two links.now renaming.now (turn + 1) }
-    ensures { result ≡ next_enough links.now renaming.now count turn }
+    ensures { result ≡ faults.enough links.now renaming.now count turn }
 {
     let turns = u32::from(turn) + 1;
     match fault_after(links, renaming, turns, wide, high, count) {
@@ -234,7 +235,7 @@ pub fn least_expansion(links: &[RawLink], renaming: &[u16], count: u16) -> Optio
     requires closed { Closes links.now renaming.now }
     requires counted { count ≡ first_count links.now }
     requires few { length renaming.now ≤ 256 }
-    ensures { result ≡ least links.now renaming.now count }
+    ensures { result ≡ faults.least_expansion links.now renaming.now count }
 {
     let origins = origins(renaming);
     let mut wide = [false; 256];

@@ -1,11 +1,11 @@
 // What a chain without a fault is.
 ghost use Rattle.std.specs.Prelude.{◌≡◌, None};
 ghost use Rattle.wt_chain.specs.declared.raw.RawChain.{RawChain};
-ghost use Rattle.wt_chain.specs.Faults.{chain_fault as first_fault};
+ghost use Rattle.wt_chain.specs.Faults as spec;
 ghost use Rattle.wt_chain.specs.Good.{GoodChain};
 
 /// A chain has no fault exactly where it is good.
 pub fn good_chains()
-    ensures good { (c : RawChain) → first_fault c ≡ None → GoodChain c }
-    ensures back { (c : RawChain) → GoodChain c → first_fault c ≡ None }
+    ensures good { (c : RawChain) → spec.chain_fault c ≡ None → GoodChain c }
+    ensures back { (c : RawChain) → GoodChain c → spec.chain_fault c ≡ None }
 {}

@@ -3,7 +3,8 @@ ghost use Rattle.std.specs.Prelude.{◌≡◌, ◌∷◌, option_map};
 ghost use Rattle.std.specs.Cmp.Lexicographic.{pointwise};
 ghost use Rattle.std.specs.Str.{bytes_eq};
 ghost use Rattle.wt_step.specs.Links.{fine_of, coarse_of};
-ghost use Rattle.wt_chain.specs.Sets.{same_set as sets_agree, follows as set_follows, last_set as set_behind, behind};
+ghost use Rattle.wt_chain.specs.Sets.{behind};
+ghost use Rattle.wt_chain.specs.Sets as spec;
 
 use wt_step::RawLink;
 use wt_tile::{Name, TileList};
@@ -48,7 +49,7 @@ fn same_names(a: &[Name], b: &[Name]) -> bool
 
 /// Whether two lists have the same tiles and names.
 pub fn same_set(a: &TileList, b: &TileList) -> bool
-    ensures { result ≡ sets_agree a.now b.now }
+    ensures { result ≡ spec.same_set a.now b.now }
 {
     a.tiles.as_slice() == b.tiles.as_slice()
         && same_names(a.names1.as_slice(), b.names1.as_slice())
@@ -57,7 +58,7 @@ pub fn same_set(a: &TileList, b: &TileList) -> bool
 
 /// Whether a set is that before it, where there is one.
 pub fn follows(before: Option<&TileList>, set: &TileList) -> bool
-    ensures { result ≡ set_follows (option_map (λ set. set.now) before.entry) set.now }
+    ensures { result ≡ spec.follows (option_map (λ set. set.now) before.entry) set.now }
 {
     match before {
         None => true,
@@ -67,7 +68,7 @@ pub fn follows(before: Option<&TileList>, set: &TileList) -> bool
 
 /// The set behind these steps; the first one where there is none.
 pub fn last_set<'a>(first: &'a TileList, links: &'a [RawLink]) -> &'a TileList
-    ensures { result.now ≡ set_behind first.now links.now }
+    ensures { result.now ≡ spec.last_set first.now links.now }
 {
     let mut set = first;
     for link in links {

@@ -2,7 +2,7 @@
 ghost use Rattle.std.specs.Prelude.{◌≡◌};
 ghost use Rattle.wt_grid.specs.Order.{all_of};
 ghost use Rattle.wt_refute.specs.View.{refutation};
-ghost use Rattle.wt_chain.specs.Versions.{cites as tree_cites, is_plain as refutation_is_plain, is_first_version as step_is_old, version_fits as fits_version, version_of as version_for};
+ghost use Rattle.wt_chain.specs.Versions as spec;
 
 use crate::Version;
 use wt_refute::{Refuted, Tree};
@@ -10,7 +10,7 @@ use wt_step::RawLink;
 
 /// Whether a node of the tree cites.
 pub fn cites(tree: &Tree) -> bool
-    ensures { result ≡ tree_cites (refutation tree.now) }
+    ensures { result ≡ spec.cites (refutation tree.now) }
 {
     match tree {
         Tree::Cite { cell: _, axis: _ } => true,
@@ -26,13 +26,13 @@ pub fn cites(tree: &Tree) -> bool
 }
 
 fn is_plain(radius: u8, refuted: &Refuted) -> bool
-    ensures { result ≡ refutation_is_plain radius refuted.now }
+    ensures { result ≡ spec.is_plain radius refuted.now }
 {
     refuted.radius == radius && !cites(&refuted.tree)
 }
 
 fn are_plain(radius: u8, refuted: &[Refuted]) -> bool
-    ensures { result ≡ all_of (refutation_is_plain radius) refuted.now }
+    ensures { result ≡ all_of (spec.is_plain radius) refuted.now }
 {
     for entry in refuted {
         if !is_plain(radius, entry) {
@@ -44,7 +44,7 @@ fn are_plain(radius: u8, refuted: &[Refuted]) -> bool
 
 /// Whether version one has this step.
 pub fn is_first_version(link: &RawLink) -> bool
-    ensures { result ≡ step_is_old link.now }
+    ensures { result ≡ spec.is_first_version link.now }
 {
     match link {
         RawLink::Marker(step) => are_plain(step.radius, step.refuted.as_slice()),
@@ -53,7 +53,7 @@ pub fn is_first_version(link: &RawLink) -> bool
 }
 
 fn are_first_version(links: &[RawLink]) -> bool
-    ensures { result ≡ all_of step_is_old links.now }
+    ensures { result ≡ all_of spec.is_first_version links.now }
 {
     for link in links {
         if !is_first_version(link) {
@@ -65,7 +65,7 @@ fn are_first_version(links: &[RawLink]) -> bool
 
 /// Whether the version has these steps.
 pub fn version_fits(version: Version, links: &[RawLink]) -> bool
-    ensures { result ≡ fits_version version links.now }
+    ensures { result ≡ spec.version_fits version links.now }
 {
     match version {
         Version::One => are_first_version(links),
@@ -75,7 +75,7 @@ pub fn version_fits(version: Version, links: &[RawLink]) -> bool
 
 /// Version one while it has all the steps.
 pub fn version_of(links: &[RawLink]) -> Version
-    ensures { result ≡ version_for links.now }
+    ensures { result ≡ spec.version_of links.now }
 {
     if are_first_version(links) {
         Version::One

@@ -1,15 +1,16 @@
 // The report of a good chain.
 ghost use Rattle.std.specs.Prelude.{◌≡◌, ◌++◌, IfOk, OnOk, string_bytes, codes};
 ghost use Rattle.std.specs.Fmt.{decimal};
-ghost use Rattle.wt_chain.specs.Sets.{first_count as count_first};
-ghost use Rattle.wt_check.specs.Texts.{end_word as word_of, sizes_behind, loop_text as text_of_loop, report_text as text_of};
+ghost use Rattle.wt_chain.specs.Sets as sets;
+ghost use Rattle.wt_check.specs.Texts.{sizes_behind};
+ghost use Rattle.wt_check.specs.Texts as texts;
 
 use std::alloc::{AllocError, Global};
 use wt_chain::{Accepted, End, RawChain, coarse_set, fine_set};
 use wt_step::RawLink;
 
 fn end_word(end: &End) -> &'static str
-    ensures { result.now ≡ word_of end.now }
+    ensures { result.now ≡ texts.end_word end.now }
 {
     match end {
         End::Open => "open",
@@ -22,7 +23,7 @@ fn end_word(end: &End) -> &'static str
 }
 
 fn first_count(links: &[RawLink]) -> usize
-    ensures { result ≡ count_first links.now }
+    ensures { result ≡ sets.first_count links.now }
 {
     match links {
         [] => 0,
@@ -31,7 +32,7 @@ fn first_count(links: &[RawLink]) -> usize
 }
 
 fn head(alloc: Global, chain: &RawChain) -> Result<String, AllocError>
-    ensures { IfOk result (λ text. string_bytes text ≡ codes "accepted " ++ (word_of chain.now.end ++ (codes "\nsets " ++ decimal (count_first chain.now.steps)))) }
+    ensures { IfOk result (λ text. string_bytes text ≡ codes "accepted " ++ (texts.end_word chain.now.end ++ (codes "\nsets " ++ decimal (sets.first_count chain.now.steps)))) }
 {
     let word = end_word(&chain.end);
     let count = first_count(chain.steps.as_slice());
@@ -49,7 +50,7 @@ fn add_sizes(text: &mut String, links: &[RawLink]) -> Result<(), AllocError>
 }
 
 fn add_loop(text: &mut String, end: &End) -> Result<(), AllocError>
-    ensures { OnOk result (string_bytes text.new ≡ string_bytes text.old ++ text_of_loop end.now) }
+    ensures { OnOk result (string_bytes text.new ≡ string_bytes text.old ++ texts.loop_text end.now) }
 {
     match end {
         End::Open => Ok(()),
@@ -63,7 +64,7 @@ fn add_loop(text: &mut String, end: &End) -> Result<(), AllocError>
 
 /// The report of a good chain: whether it is open or looped, the numbers of tiles of its sets, and for a loop where it starts and how many turns make images grow. Each line ends with a newline.
 pub fn report(alloc: Global, chain: &Accepted) -> Result<Vec<u8>, AllocError>
-    ensures { IfOk result (λ bytes. bytes.items ≡ text_of chain.now) }
+    ensures { IfOk result (λ bytes. bytes.items ≡ texts.report_text chain.now) }
 {
     let raw = chain.raw();
     let mut text = head(alloc, raw)?;

@@ -2,13 +2,13 @@
 ghost use Rattle.std.specs.Prelude.{◌≡◌, ◌+◌, ◌<◌, ◌≤◌, [], ◌∷◌, ◌++◌, length, take, drop, map, slice_index, slice_index_or, true};
 ghost use Rattle.std.specs.List.{flat_map};
 ghost use Rattle.wt_grid.specs.Traces.{piece_tiles};
-ghost use Rattle.wt_morphism.specs.Images.{piece as piece_of};
+ghost use Rattle.wt_morphism.specs.Images as images;
 ghost use Rattle.wt_expand.specs.Levels.{rows_below};
 ghost use Rattle.wt_expand.specs.Rows.{bit};
 ghost use Rattle.wt_expand.specs.Walks.{has_two, laid};
 ghost use Rattle.wt_expand.specs.Blocks.{piece_under, standing_of};
 ghost use Rattle.wt_expand.specs.Ladders.{level_of};
-ghost use Rattle.wt_expand.specs.Blocks.{tile_of as the_tile};
+ghost use Rattle.wt_expand.specs.Blocks as blocks;
 
 use crate::ladder::{Ladder, LevelRef};
 use crate::rungs::is_along;
@@ -30,7 +30,7 @@ fn put(row: &mut [u16], len: usize, tile: u16) -> usize
 
 fn put_image(row: &mut [u16], len: usize, image: Image) -> usize
     requires { len ≤ length row.old }
-    ensures put { take result row.new ≡ take (length row.old) (take len row.old ++ piece_tiles (piece_of image)) }
+    ensures put { take result row.new ≡ take (length row.old) (take len row.old ++ piece_tiles (images.piece image)) }
     ensures within { result ≤ length row.new }
     ensures room { length row.new ≡ length row.old }
 {
@@ -63,7 +63,7 @@ fn lay_along(ladder: &Ladder<'_>, level: LevelRef<'_>, above: &[u16], row: &mut 
 
 /// The lower or the upper tile of an image.
 fn tile_of(upper: bool, image: Image) -> u16
-    ensures { result ≡ the_tile upper (piece_of image) }
+    ensures { result ≡ blocks.tile_of upper (images.piece image) }
 {
     match image {
         Image::One(a) => a,
@@ -80,7 +80,7 @@ fn lay_across(
     row: &mut [u16],
 ) -> usize
     ensures laid { take result row.new
-        ≡ take (length row.old) (map (λ t. the_tile upper (piece_under ladder.now.renaming.now (level_of level.entry) t)) above.now) }
+        ≡ take (length row.old) (map (λ t. blocks.tile_of upper (piece_under ladder.now.renaming.now (level_of level.entry) t)) above.now) }
     ensures within { result ≤ length row.new }
     ensures room { length row.new ≡ length row.old }
 {

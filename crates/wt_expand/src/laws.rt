@@ -6,7 +6,8 @@ ghost use Rattle.wt_chain.specs.declared.raw.End.TheVariants.{Loop};
 ghost use Rattle.wt_chain.specs.Faults.{chain_fault};
 ghost use Rattle.wt_chain.specs.Turns.{image_through, turned_times, single};
 ghost use Rattle.wt_scale.specs.Pick.{power_for, pick};
-ghost use Rattle.wt_expand.specs.Levels.{Level, levels as levels_of};
+ghost use Rattle.wt_expand.specs.Levels.{Level};
+ghost use Rattle.wt_expand.specs.Levels as spec;
 ghost use Rattle.wt_expand.specs.Rows.{all_rows, Standing, row_number, Fits};
 ghost use Rattle.wt_expand.specs.Picks.{HasRows};
 
@@ -14,7 +15,7 @@ ghost use Rattle.wt_expand.specs.Picks.{HasRows};
 /// loop, are the rows that come below tile 0 level by level, each row as one row or two.
 pub fn rows_of_images()
     ensures { (c : RawChain) → chain_fault c ≡ None → (start e : ℕ) (list : List ℕ) → c.end ≡ Loop start list e → (turns : ℕ)
-        → lines two (image_through (take start c.steps) (turned_times (drop start c.steps) list turns (single 0))) ≡ all_rows list (levels_of c.steps start turns) }
+        → lines two (image_through (take start c.steps) (turned_times (drop start c.steps) list turns (single 0))) ≡ all_rows list (spec.levels c.steps start turns) }
 {}
 
 /// The first w tiles of a row tell the first w cells of each row that it stands for. So rows that stand below
@@ -29,5 +30,5 @@ pub fn short_rows_are_rows()
 /// w cells of each: there are as many rows, and each is as wide.
 pub fn rows_of_picks()
     ensures { (c : RawChain) → chain_fault c ≡ None → (start e : ℕ) (list : List ℕ) → c.end ≡ Loop start list e → (w h : ℕ)
-        → HasRows w h (pick c.steps start list e w h) (all_rows list (levels_of c.steps start (power_for (max w h) * e))) }
+        → HasRows w h (pick c.steps start list e w h) (all_rows list (spec.levels c.steps start (power_for (max w h) * e))) }
 {}

@@ -1,7 +1,7 @@
 // Numbers in a text.
 ghost use Rattle.std.specs.Prelude.{◌≡◌, ◌≤◌, ◌^◌, ◌*◌, ◌+◌, MatchOption};
 ghost use Rattle.std.specs.Str.{all_ascii_digits};
-ghost use Rattle.wt_text.specs.Words.{number as number_of, is_decimal as decimal_form};
+ghost use Rattle.wt_text.specs.Words as spec;
 ghost use Rattle.wt_io.specs.Numbers.{in_u64};
 
 use thiserror::Error;
@@ -30,7 +30,7 @@ fn all_digits(token: &[u8]) -> bool
 
 /// Whether a token spells a number of any size: decimal digits without a leading zero, or `0`.
 pub fn is_decimal(token: &[u8]) -> bool
-    ensures { result ≡ decimal_form token.now }
+    ensures { result ≡ spec.is_decimal token.now }
 {
     if token.is_empty() || (token.len() > 1 && token[0] == b'0') {
         return false;
@@ -49,7 +49,7 @@ fn with_digit(value: u64, digit: u64) -> Option<u64>
 ///
 /// `NotNumber` comes exactly where the token has another form, and `TooLarge` exactly where the value is 2^64 or more.
 pub fn number(token: &[u8]) -> Result<u64, NumberFault>
-    ensures { result ≡ in_u64 (number_of token.now) }
+    ensures { result ≡ in_u64 (spec.number token.now) }
 {
     if !is_decimal(token) {
         return Err(NumberFault::NotNumber);

@@ -1,7 +1,8 @@
 // What can be wrong with a text.
 ghost use Rattle.std.specs.Prelude.{◌≡◌};
-ghost use Rattle.wt_line.specs.declared.faults.LineFault.TheVariants.{Past, OutOfMemory as LineNoMemory};
-ghost use Rattle.wt_line.specs.declared.faults.TextFault.TheVariants.{OutOfMemory as NoMemory};
+ghost use Rattle.wt_line.specs.declared.faults.LineFault.TheVariants.{Past};
+ghost use Rattle.wt_line.specs.declared.faults.LineFault.TheVariants as line_fault;
+ghost use Rattle.wt_line.specs.declared.faults.TextFault.TheVariants as text_fault;
 ghost use Rattle.wt_line.specs.Faults.{at_line};
 ghost use Rattle.wt_line.specs.Limits.{limit_word};
 
@@ -121,7 +122,7 @@ pub fn placed<A: Drop>(read: Result<A, LineFault>, line: usize) -> Result<A, Tex
 }
 
 impl<T: Drop> From<AllocFailed<T>> for TextFault {
-    ghost from_gives = { λ _ e. e ≡ NoMemory };
+    ghost from_gives = { λ _ e. e ≡ text_fault.OutOfMemory };
 
     fn from(_: AllocFailed<T>) -> Self {
         TextFault::OutOfMemory
@@ -129,7 +130,7 @@ impl<T: Drop> From<AllocFailed<T>> for TextFault {
 }
 
 impl<T: Drop> From<AllocFailed<T>> for LineFault {
-    ghost from_gives = { λ _ e. e ≡ LineNoMemory };
+    ghost from_gives = { λ _ e. e ≡ line_fault.OutOfMemory };
 
     fn from(_: AllocFailed<T>) -> Self {
         LineFault::OutOfMemory
@@ -137,7 +138,7 @@ impl<T: Drop> From<AllocFailed<T>> for LineFault {
 }
 
 impl From<AllocError> for LineFault {
-    ghost from_gives = { λ _ e. e ≡ LineNoMemory };
+    ghost from_gives = { λ _ e. e ≡ line_fault.OutOfMemory };
 
     fn from(_: AllocError) -> Self {
         LineFault::OutOfMemory
@@ -145,7 +146,7 @@ impl From<AllocError> for LineFault {
 }
 
 impl From<AllocError> for TextFault {
-    ghost from_gives = { λ _ e. e ≡ NoMemory };
+    ghost from_gives = { λ _ e. e ≡ text_fault.OutOfMemory };
 
     fn from(_: AllocError) -> Self {
         TextFault::OutOfMemory

@@ -1,7 +1,7 @@
 // Numbers in a line.
 ghost use Rattle.std.specs.Prelude.{◌≡◌, ◌≤◌, ◌<◌, IfOk};
-ghost use Rattle.wt_text.specs.Words.{number as number_of};
-ghost use Rattle.wt_text.specs.Readers.{number_to as limited_number};
+ghost use Rattle.wt_text.specs.Words as words;
+ghost use Rattle.wt_text.specs.Readers as readers;
 ghost use Rattle.wt_line.specs.Given.{left, held, room};
 ghost use Rattle.wt_line.specs.Faults.{ReadsTokens};
 
@@ -12,7 +12,7 @@ use wt_io::NumberFault;
 /// The number that a token spells, held at the last value of a `u64`, so that it may be compared with any limit.
 /// None where the token is no number of any size.
 pub fn number(token: &[u8]) -> Option<u64>
-    ensures { result ≡ held (number_of token.now) }
+    ensures { result ≡ held (words.number token.now) }
 {
     match wt_io::number(token) {
         Ok(value) => Some(value),
@@ -31,7 +31,7 @@ pub fn number_to(
 ) -> Result<(Result<u32, What>, Rest<'_>), LineFault>
     ensures within { IfOk result (λ x. IfOk x.0 (λ n. n ≤ most)) }
     ensures fewer { IfOk result (λ x. room x.1.more x.1.line.now < room rest.entry.more rest.entry.line.now) }
-    ensures read { ReadsTokens (λ x. (x.0, left x.1.more x.1.line.now)) result (limited_number most what (left rest.entry.more rest.entry.line.now)) }
+    ensures read { ReadsTokens (λ x. (x.0, left x.1.more x.1.line.now)) result (readers.number_to most what (left rest.entry.more rest.entry.line.now)) }
 {
     let Some((token, rest)) = next_token(rest) else {
         return Err(LineFault::Wrong);

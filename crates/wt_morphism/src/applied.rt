@@ -1,7 +1,8 @@
 // Images of patterns, whole or in part.
 ghost use Rattle.std.specs.Prelude.{◌≡◌, ◌⊎◌, ◌≤◌, min, None, Some, IfOk, MatchResult};
 ghost use Rattle.wt_grid.specs.Parts.{part};
-ghost use Rattle.wt_morphism.specs.Images.{image, uneven as first_uneven, apply_fault as why_not, IsRefusal, IsCutRefusal, image_by_all, apply_all_fault as first_refusal};
+ghost use Rattle.wt_morphism.specs.Images.{image, IsRefusal, IsCutRefusal, image_by_all};
+ghost use Rattle.wt_morphism.specs.Images as spec;
 
 use crate::even::uneven;
 use crate::laid::{image_shape, lay};
@@ -17,7 +18,7 @@ const MAX_SIDE: usize = 4096;
 /// table counts as one that stands for tile 0.
 pub fn apply(alloc: Global, m: &Morphism, p: &Pattern) -> Result<Pattern, ApplyFault>
     ensures image { IfOk result (λ q. q ≡ image m.now p.now) }
-    ensures fault { MatchResult result (λ q. why_not m.now p.now ≡ None) (λ e. IsRefusal (why_not m.now p.now) e) }
+    ensures fault { MatchResult result (λ q. spec.apply_fault m.now p.now ≡ None) (λ e. IsRefusal (spec.apply_fault m.now p.now) e) }
 {
     if let Some((x, y)) = uneven(m, p) {
         return Err(ApplyFault::Uneven { x, y });
@@ -44,7 +45,7 @@ pub fn apply_part(
     requires wide { (1 ≤ w) × (w ≤ 4096) }
     requires high { (1 ≤ h) × (h ≤ 4096) }
     ensures part { IfOk result (λ q. q ≡ part (image m.now p.now) 0 0 (min w (image m.now p.now).width) (min h (image m.now p.now).height)) }
-    ensures even { MatchResult result (λ q. first_uneven m.now p.now ≡ None) (λ e. IsCutRefusal (first_uneven m.now p.now) e) }
+    ensures even { MatchResult result (λ q. spec.uneven m.now p.now ≡ None) (λ e. IsCutRefusal (spec.uneven m.now p.now) e) }
 {
     if let Some((x, y)) = uneven(m, p) {
         return Err(CutFault::Uneven { x, y });
@@ -75,8 +76,8 @@ fn copy_pattern(alloc: Global, p: &Pattern) -> Result<Pattern, AllocError>
 pub fn apply_all(alloc: Global, parts: &[Morphism], p: &Pattern) -> Result<Pattern, ApplyFault>
     ensures image { IfOk result (λ q. q ≡ image_by_all parts.now p.now) }
     ensures fault { MatchResult result
-        (λ q. first_refusal parts.now p.now ≡ None)
-        (λ e. (first_refusal parts.now p.now ≡ Some e) ⊎ (e ≡ ApplyFault.OutOfMemory)) }
+        (λ q. spec.apply_all_fault parts.now p.now ≡ None)
+        (λ e. (spec.apply_all_fault parts.now p.now ≡ Some e) ⊎ (e ≡ ApplyFault.OutOfMemory)) }
 {
     let [first, rest @ ..] = parts else {
         return match copy_pattern(alloc, p) {

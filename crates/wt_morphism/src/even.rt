@@ -2,7 +2,8 @@
 ghost use Rattle.std.specs.Prelude.{◌≡◌, ◌<◌};
 ghost use Rattle.wt_pattern.specs.Shape.{IsShape};
 ghost use Rattle.wt_grid.specs.Images.{is_pair};
-ghost use Rattle.wt_morphism.specs.Images.{piece, image_at as the_image, is_two as the_two, line_start as the_start, uneven_at as at_cell, uneven_in as in_row, uneven as first_uneven};
+ghost use Rattle.wt_morphism.specs.Images.{piece};
+ghost use Rattle.wt_morphism.specs.Images as spec;
 
 use crate::{Image, Morphism};
 use wt_pattern::Pattern;
@@ -10,7 +11,7 @@ use wt_tile::Axis;
 
 /// The image of a tile; a number past the table counts as one that stands for tile 0.
 pub fn image_at(table: &[Image], tile: u16) -> Image
-    ensures { result ≡ the_image table.now tile }
+    ensures { result ≡ spec.image_at table.now tile }
 {
     let tile = usize::from(tile);
     if tile < table.len() {
@@ -22,7 +23,7 @@ pub fn image_at(table: &[Image], tile: u16) -> Image
 
 /// Whether a tile stands for two.
 pub fn is_two(m: &Morphism, tile: u16) -> bool
-    ensures { result ≡ the_two m.now tile }
+    ensures { result ≡ spec.is_two m.now tile }
 {
     match image_at(m.table.as_slice(), tile) {
         Image::One(_) => false,
@@ -34,7 +35,7 @@ pub fn is_two(m: &Morphism, tile: u16) -> bool
 fn line_start(axis: Axis, p: &Pattern, x: usize, y: usize) -> u16
     requires inside_x { x < p.now.width }
     requires inside_y { y < p.now.height }
-    ensures { result ≡ the_start axis p.now x y }
+    ensures { result ≡ spec.line_start axis p.now x y }
 {
     match axis {
         Axis::One => p.cell(x, 0),
@@ -45,7 +46,7 @@ fn line_start(axis: Axis, p: &Pattern, x: usize, y: usize) -> u16
 fn uneven_at(m: &Morphism, p: &Pattern, y: usize, x: usize) -> Option<(usize, usize)>
     requires inside_x { x < p.now.width }
     requires inside_y { y < p.now.height }
-    ensures { result ≡ at_cell m.now p.now y x }
+    ensures { result ≡ spec.uneven_at m.now p.now y x }
 {
     let here = is_two(m, p.cell(x, y));
     let first = is_two(m, line_start(m.axis, p, x, y));
@@ -55,7 +56,7 @@ fn uneven_at(m: &Morphism, p: &Pattern, y: usize, x: usize) -> Option<(usize, us
 #[tactic(auto, using(wt_grid::proofs::First::first_more))]
 fn uneven_in(m: &Morphism, p: &Pattern, y: usize) -> Option<(usize, usize)>
     requires { y < p.now.height }
-    ensures { result ≡ in_row m.now p.now y }
+    ensures { result ≡ spec.uneven_in m.now p.now y }
 {
     for x in 0..p.width() {
         if let Some(place) = uneven_at(m, p, y, x) {
@@ -69,7 +70,7 @@ fn uneven_in(m: &Morphism, p: &Pattern, y: usize) -> Option<(usize, usize)>
 #[tactic(auto, using(wt_grid::proofs::First::first_more), unfolding(crate::specs::Images::uneven))]
 pub fn uneven(m: &Morphism, p: &Pattern) -> Option<(usize, usize)>
     ensures shape { IsShape p.now }
-    ensures value { result ≡ first_uneven m.now p.now }
+    ensures value { result ≡ spec.uneven m.now p.now }
 {
     for y in 0..p.height() {
         if let Some(place) = uneven_in(m, p, y) {

@@ -1,11 +1,13 @@
 // Images laid out line by line.
 ghost use Rattle.std.specs.Prelude.{◌≡◌, ◌*◌, ◌<◌, ◌≤◌, ◌++◌, length, IfOk, OnOk};
 ghost use Rattle.wt_tile.specs.Matching.{grid_axis};
-ghost use Rattle.wt_grid.specs.Grid.{along as along_grid, across as across_grid, at as at_grid, listed, grid_of};
+ghost use Rattle.wt_grid.specs.Grid.{listed, grid_of};
+ghost use Rattle.wt_grid.specs.Grid as grid;
 ghost use Rattle.wt_grid.specs.Parts.{part};
 ghost use Rattle.wt_pattern.specs.Shape.{IsShape};
 ghost use Rattle.wt_morphism.specs.Images.{image};
-ghost use Rattle.wt_morphism.specs.Strands.{all_strands, line_is_two as two_lines, tile_of as the_tile, turned as turned_to, laid as laid_at, laid_row};
+ghost use Rattle.wt_morphism.specs.Strands.{all_strands, laid_row};
+ghost use Rattle.wt_morphism.specs.Strands as strand_words;
 
 use crate::even::{image_at, is_two};
 use crate::{Image, Morphism};
@@ -22,9 +24,9 @@ pub struct Strand {
 
 /// How many lines the pattern has along the axis.
 fn along(axis: Axis, p: &Pattern) -> usize
-    ensures value { result ≡ along_grid (grid_axis axis) p.now }
+    ensures value { result ≡ grid.along (grid_axis axis) p.now }
     ensures few { result ≤ 4096 }
-    ensures wide { 0 < across_grid (grid_axis axis) p.now }
+    ensures wide { 0 < grid.across (grid_axis axis) p.now }
 {
     match axis {
         Axis::One => p.width(),
@@ -34,9 +36,9 @@ fn along(axis: Axis, p: &Pattern) -> usize
 
 /// Cell j of line i along the axis.
 fn at(axis: Axis, p: &Pattern, i: usize, j: usize) -> u16
-    requires line { i < along_grid (grid_axis axis) p.now }
-    requires cell { j < across_grid (grid_axis axis) p.now }
-    ensures { result ≡ at_grid (grid_axis axis) p.now i j }
+    requires line { i < grid.along (grid_axis axis) p.now }
+    requires cell { j < grid.across (grid_axis axis) p.now }
+    ensures { result ≡ grid.at (grid_axis axis) p.now i j }
 {
     match axis {
         Axis::One => p.cell(i, j),
@@ -46,9 +48,9 @@ fn at(axis: Axis, p: &Pattern, i: usize, j: usize) -> u16
 
 /// Whether a line stands for two, as its first tile does.
 fn line_is_two(m: &Morphism, p: &Pattern, i: usize) -> bool
-    requires line { i < along_grid (grid_axis m.now.axis) p.now }
-    requires wide { 0 < across_grid (grid_axis m.now.axis) p.now }
-    ensures { result ≡ two_lines m.now p.now i }
+    requires line { i < grid.along (grid_axis m.now.axis) p.now }
+    requires wide { 0 < grid.across (grid_axis m.now.axis) p.now }
+    ensures { result ≡ strand_words.line_is_two m.now p.now i }
 {
     is_two(m, at(m.axis, p, i, 0))
 }
@@ -87,7 +89,7 @@ fn strands(alloc: Global, m: &Morphism, p: &Pattern) -> Result<Vec<Strand>, Allo
 
 /// The first or the second tile of an image.
 fn tile_of(second: bool, image: Image) -> u16
-    ensures { result ≡ the_tile second image }
+    ensures { result ≡ strand_words.tile_of second image }
 {
     match image {
         Image::One(a) => a,
@@ -97,7 +99,7 @@ fn tile_of(second: bool, image: Image) -> u16
 
 /// The line and the place in it of cell (x, y).
 fn turned(axis: Axis, x: usize, y: usize) -> (usize, usize)
-    ensures { result ≡ turned_to axis x y }
+    ensures { result ≡ strand_words.turned axis x y }
 {
     match axis {
         Axis::One => (x, y),
@@ -108,9 +110,9 @@ fn turned(axis: Axis, x: usize, y: usize) -> (usize, usize)
 /// Cell (x, y) of the image with these lines.
 fn laid_cell(m: &Morphism, p: &Pattern, lines: &[Strand], x: usize, y: usize) -> u16
     requires lines { lines.now ≡ all_strands m.now p.now }
-    requires line { (turned_to m.now.axis x y).0 < length lines.now }
-    requires cell { (turned_to m.now.axis x y).1 < across_grid (grid_axis m.now.axis) p.now }
-    ensures { result ≡ laid_at m.now p.now lines.now x y }
+    requires line { (strand_words.turned m.now.axis x y).0 < length lines.now }
+    requires cell { (strand_words.turned m.now.axis x y).1 < grid.across (grid_axis m.now.axis) p.now }
+    ensures { result ≡ strand_words.laid m.now p.now lines.now x y }
 {
     let (line, cell) = turned(m.axis, x, y);
     let strand = lines[line];

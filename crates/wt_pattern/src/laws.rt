@@ -3,7 +3,8 @@ ghost use Rattle.std.specs.Prelude.{◌≡◌, ℕ, List, length, None, ℤ, pos
 ghost use Rattle.wt_tile.specs.declared.tile.Tile.{Tile};
 ghost use Rattle.wt_tile.specs.declared.tile.Axis.{Axis};
 ghost use Rattle.wt_tile.specs.Matching.{matching, grid_axis};
-ghost use Rattle.wt_grid.specs.Grid.{Grid, IsGrid, Axis as GridAxis, one, two, lines};
+ghost use Rattle.wt_grid.specs.Grid.{Grid, IsGrid, one, two, lines};
+ghost use Rattle.wt_grid.specs.Grid as spec;
 ghost use Rattle.wt_grid.specs.Lines.{IsField};
 ghost use Rattle.wt_grid.specs.Parts.{AllBelow, IsValid, IsWindow, other};
 ghost use Rattle.wt_grid.specs.Shifts.{IsRepeated, Repeats};
@@ -27,8 +28,8 @@ pub fn faults()
 
 /// Validity by cells and by lines along an axis are the same.
 pub fn valid_lines()
-    ensures to_lines { (ts : List Tile) (axis : GridAxis) (g : Grid) → IsValid (matching ts) g → IsField (matching ts axis) (matching ts (other axis)) (lines axis g) }
-    ensures to_cells { (ts : List Tile) (axis : GridAxis) (g : Grid) → IsField (matching ts axis) (matching ts (other axis)) (lines axis g) → IsValid (matching ts) g }
+    ensures to_lines { (ts : List Tile) (axis : spec.Axis) (g : Grid) → IsValid (matching ts) g → IsField (matching ts axis) (matching ts (other axis)) (lines axis g) }
+    ensures to_cells { (ts : List Tile) (axis : spec.Axis) (g : Grid) → IsField (matching ts axis) (matching ts (other axis)) (lines axis g) → IsValid (matching ts) g }
 {}
 
 /// `period_fault` finds nothing exactly where the vector is a period.
@@ -39,23 +40,23 @@ pub fn period_faults()
 
 /// A period's opposite is a period, and a period may be read along either axis.
 pub fn period_turns()
-    ensures opposite { (axis : GridAxis) (g : Grid) (d e : ℤ) → IsPeriodAlong axis g d e → IsPeriodAlong axis g (neg_ℤ d) (neg_ℤ e) }
+    ensures opposite { (axis : spec.Axis) (g : Grid) (d e : ℤ) → IsPeriodAlong axis g d e → IsPeriodAlong axis g (neg_ℤ d) (neg_ℤ e) }
     ensures turned { (g : Grid) (dx dy : ℤ) → IsPeriod g dx dy → IsPeriodAlong two g dy dx }
     ensures turned_back { (g : Grid) (dx dy : ℤ) → IsPeriodAlong two g dy dx → IsPeriod g dx dy }
 {}
 
 /// A period that goes forward along an axis, as numbers without signs: d lines on, and n cells on or back across.
 pub fn signs_of_periods()
-    ensures forward { (axis : GridAxis) (g : Grid) (d n : ℕ) → IsPeriodAlong axis g (pos d) (pos n) → IsRepeated axis d 0 n g }
-    ensures back { (axis : GridAxis) (g : Grid) (d n : ℕ) → IsPeriodAlong axis g (pos d) (neg_ℤ (pos n)) → IsRepeated axis d n 0 g }
-    ensures from_forward { (axis : GridAxis) (g : Grid) (d n : ℕ) → IsRepeated axis d 0 n g → IsPeriodAlong axis g (pos d) (pos n) }
-    ensures from_back { (axis : GridAxis) (g : Grid) (d n : ℕ) → IsRepeated axis d n 0 g → IsPeriodAlong axis g (pos d) (neg_ℤ (pos n)) }
+    ensures forward { (axis : spec.Axis) (g : Grid) (d n : ℕ) → IsPeriodAlong axis g (pos d) (pos n) → IsRepeated axis d 0 n g }
+    ensures back { (axis : spec.Axis) (g : Grid) (d n : ℕ) → IsPeriodAlong axis g (pos d) (neg_ℤ (pos n)) → IsRepeated axis d n 0 g }
+    ensures from_forward { (axis : spec.Axis) (g : Grid) (d n : ℕ) → IsRepeated axis d 0 n g → IsPeriodAlong axis g (pos d) (pos n) }
+    ensures from_back { (axis : spec.Axis) (g : Grid) (d n : ℕ) → IsRepeated axis d n 0 g → IsPeriodAlong axis g (pos d) (neg_ℤ (pos n)) }
 {}
 
 /// Periods by cells and by lines along an axis are the same.
 pub fn period_lines()
-    ensures to_lines { (axis : GridAxis) (d a b : ℕ) (g : Grid) → IsRepeated axis d a b g → Repeats a b d (lines axis g) }
-    ensures to_cells { (axis : GridAxis) (d a b : ℕ) (g : Grid) → Repeats a b d (lines axis g) → IsRepeated axis d a b g }
+    ensures to_lines { (axis : spec.Axis) (d a b : ℕ) (g : Grid) → IsRepeated axis d a b g → Repeats a b d (lines axis g) }
+    ensures to_cells { (axis : spec.Axis) (d a b : ℕ) (g : Grid) → Repeats a b d (lines axis g) → IsRepeated axis d a b g }
 {}
 
 /// The size that `window_shape` gives is that of each window.

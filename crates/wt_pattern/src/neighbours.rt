@@ -1,7 +1,8 @@
 // Two lines of cells beside each other: where their tiles don't match.
 ghost use Rattle.std.specs.Prelude.{◌≡◌, ◌≤◌, ◌+◌, ◌<◌, length, take};
 ghost use Rattle.wt_lane.specs.Differs.{first_place_apart};
-ghost use Rattle.wt_pattern.specs.Rows.{colours_ahead, colours_behind, earlier as the_earlier};
+ghost use Rattle.wt_pattern.specs.Rows.{colours_ahead, colours_behind};
+ghost use Rattle.wt_pattern.specs.Rows as spec;
 
 use crate::Fault;
 use wt_lane::first_difference;
@@ -61,7 +62,7 @@ pub fn line_fault(tiles: &[Tile], axis: Axis, low: &[u16], high: &[u16]) -> Opti
 
 /// Of the first fault to the right and the first fault upwards in a row the earlier one: at one cell the fault to the right.
 pub fn earlier(y: usize, right: Option<usize>, up: Option<usize>) -> Option<Fault>
-    ensures { result ≡ the_earlier y right up }
+    ensures { result ≡ spec.earlier y right up }
 {
     match (right, up) {
         (None, None) => None,

@@ -1,6 +1,6 @@
 // Parts of a pattern.
 ghost use Rattle.std.specs.Prelude.{◌≡◌, ◌≤◌, ◌+◌, ◌⊎◌, true, false, IfOk, IsErrOf, ◌↔◌};
-ghost use Rattle.wt_grid.specs.Parts.{part as part_of, core as core_of};
+ghost use Rattle.wt_grid.specs.Parts as spec;
 ghost use Rattle.wt_pattern.specs.Shape.{holds_part, IsShape};
 
 use crate::{PartFault, Pattern};
@@ -15,7 +15,7 @@ pub fn part(
     w: usize,
     h: usize,
 ) -> Result<Pattern, PartFault>
-    ensures part { IfOk result (λ q. q ≡ part_of p.now x y w h) }
+    ensures part { IfOk result (λ q. q ≡ spec.part p.now x y w h) }
     ensures outside { IsErrOf result PartFault.Outside ↔ (holds_part p.now x y w h ≡ false) }
 {
     if !is_inside(p, x, y, w, h) {
@@ -27,7 +27,7 @@ pub fn part(
 
 /// The pattern without r lines on each side; Outside exactly where nothing is left.
 pub fn core(alloc: Global, p: &Pattern, r: usize) -> Result<Pattern, PartFault>
-    ensures core { IfOk result (λ q. q ≡ core_of r p.now) }
+    ensures core { IfOk result (λ q. q ≡ spec.core r p.now) }
     ensures outside { IsErrOf result PartFault.Outside ↔ ((p.now.width ≤ r + r) ⊎ (p.now.height ≤ r + r)) }
 {
     let border = r.saturating_add(r);
@@ -57,7 +57,7 @@ fn part_cells(
 ) -> Result<Vec<u16>, AllocError>
     requires inside { holds_part p.now x y w h ≡ true }
     requires shape { IsShape p.now }
-    ensures { IfOk result (λ cells. cells.items ≡ (part_of p.now x y w h).cells) }
+    ensures { IfOk result (λ cells. cells.items ≡ (spec.part p.now x y w h).cells) }
 {
     let mut cells = Vec::with_capacity(alloc, w * h)?;
     for j in 0..h {

@@ -1,7 +1,8 @@
 // Periods: where a pattern differs from itself, moved by a vector.
 ghost use Rattle.std.specs.Prelude.{◌≡◌, ◌<◌, ◌≤◌, length};
 ghost use Rattle.wt_pattern.specs.Rows.{first_place};
-ghost use Rattle.wt_pattern.specs.Periods.{shift_of as the_shift, shifted as is_shifted, is_apart, period_fault_in as first_of_row, first_period_fault};
+ghost use Rattle.wt_pattern.specs.Periods.{is_apart, first_period_fault};
+ghost use Rattle.wt_pattern.specs.Periods as spec;
 
 use crate::Pattern;
 use wt_lane::first_difference;
@@ -31,7 +32,7 @@ pub fn period_fault(p: &Pattern, dx: i64, dy: i64) -> Option<(usize, usize)>
 
 /// A component of a vector as a shift.
 fn shift_of(component: i64) -> Shift
-    ensures { result ≡ the_shift component }
+    ensures { result ≡ spec.shift_of component }
 {
     let steps = component.unsigned_abs() as usize;
     if component < 0 {
@@ -44,7 +45,7 @@ fn shift_of(component: i64) -> Shift
 /// Where a shift takes the place at of len, if that is inside.
 fn shifted(shift: Shift, len: usize, at: usize) -> Option<usize>
     requires { at < len }
-    ensures { result ≡ is_shifted shift len at }
+    ensures { result ≡ spec.shifted shift len at }
 {
     match shift {
         Shift::Forward(steps) => {
@@ -61,7 +62,7 @@ fn shifted(shift: Shift, len: usize, at: usize) -> Option<usize>
 /// The first cell of row y that differs from the one to which the shifts take it.
 fn period_fault_in(p: &Pattern, right: Shift, up: Shift, y: usize) -> Option<(usize, usize)>
     requires { y < p.now.height }
-    ensures { result ≡ first_of_row right up p.now y }
+    ensures { result ≡ spec.period_fault_in right up p.now y }
 {
     let other = shifted(up, p.height(), y)?;
     let x = line_apart(right, p.row(y), p.row(other))?;

@@ -1,7 +1,8 @@
 // The first cell that is no tile, and the first neighbours that don't match.
 ghost use Rattle.std.specs.Prelude.{◌≡◌, ◌<◌, length};
 ghost use Rattle.wt_pattern.specs.Rows.{first_place};
-ghost use Rattle.wt_pattern.specs.Validity.{first_stranger, stranger_in as first_in_row, clashes, fault_in as first_of_row, first_fault};
+ghost use Rattle.wt_pattern.specs.Validity.{first_stranger, clashes, first_fault};
+ghost use Rattle.wt_pattern.specs.Validity as spec;
 
 use crate::neighbours::{earlier, line_fault};
 use crate::{Fault, Pattern};
@@ -25,7 +26,7 @@ pub fn tiles_fault(set: SetRef, p: &Pattern) -> Option<(usize, usize)>
 #[tactic(auto, using(wt_grid::proofs::First::first_more))]
 fn stranger_in(count: usize, p: &Pattern, y: usize) -> Option<(usize, usize)>
     requires { y < p.now.height }
-    ensures { result ≡ first_in_row count p.now y }
+    ensures { result ≡ spec.stranger_in count p.now y }
 {
     for x in 0..p.width() {
         if usize::from(p.cell(x, y)) >= count {
@@ -54,7 +55,7 @@ pub fn valid(set: SetRef, p: &Pattern) -> Option<Fault>
 #[tactic(auto, using(crate::proofs::RowFaults::fault_by_axes))]
 fn fault_in(tiles: &[Tile], p: &Pattern, y: usize) -> Option<Fault>
     requires { y < p.now.height }
-    ensures { result ≡ first_of_row tiles.now p.now y }
+    ensures { result ≡ spec.fault_in tiles.now p.now y }
 {
     let right = right_fault(tiles, p, y);
     let up = up_fault(tiles, p, y);

@@ -4,9 +4,11 @@ ghost use Rattle.std.specs.Option.{option_map};
 ghost use Rattle.wt_refute.specs.Refutation.{node_count, tiles_in, held};
 ghost use Rattle.wt_refute.specs.View.{refutation, children_view};
 ghost use Rattle.wt_pattern.specs.Windows.{window_size};
-ghost use Rattle.wt_refute.specs.Placed.{placed, window_of, tile_window, next_cell as cell_beside};
+ghost use Rattle.wt_refute.specs.Placed.{placed, window_of, tile_window};
+ghost use Rattle.wt_refute.specs.Placed as placed_words;
 ghost use Rattle.wt_refute.specs.Entries.{ascends};
-ghost use Rattle.wt_refute.specs.Refutes.{lies_inside as is_inside, next_placed as the_next, is_cited as cited, is_branching as branching, first_wrong, tree_fault, tile_tree_fault};
+ghost use Rattle.wt_refute.specs.Refutes.{first_wrong, tree_fault, tile_tree_fault};
+ghost use Rattle.wt_refute.specs.Refutes as refutes;
 
 use crate::known::has_entry;
 use crate::window::{above, is_free, next_fitting, right_of, tile_in};
@@ -24,7 +26,7 @@ fn lies_inside(shape: (usize, usize), cell: usize, axis: Axis, radius: u8) -> bo
     requires radius { radius ≤ 4 }
     requires wide { 0 < shape.0 }
     requires low { cell < 2 ^ 32 }
-    ensures { result ≡ is_inside shape.0 shape.1 cell axis radius }
+    ensures { result ≡ refutes.lies_inside shape.0 shape.1 cell axis radius }
 {
     let x = cell % shape.0;
     let y = cell / shape.0;
@@ -37,7 +39,7 @@ fn next_placed(shape: (usize, usize), cells: &[Option<u16>], cell: usize, axis: 
     requires wide { 0 < shape.0 }
     requires small { shape.0 < 2 ^ 32 }
     requires low { cell < 2 ^ 32 }
-    ensures { result ≡ the_next (placed shape cells.now) cell axis }
+    ensures { result ≡ refutes.next_placed (placed shape cells.now) cell axis }
 {
     match axis {
         Axis::One => right_of(shape, cells, cell),
@@ -60,7 +62,7 @@ pub fn is_cited(
     requires low { cell < 2 ^ 32 }
     requires radius { radius ≤ 4 }
     requires in_order { ascends known.now ≡ true }
-    ensures { result ≡ cited radius known.now (placed shape cells.now) cell axis }
+    ensures { result ≡ refutes.is_cited radius known.now (placed shape cells.now) cell axis }
 {
     let Some(a) = tile_in(shape, cells, cell) else {
         return false;
@@ -87,7 +89,7 @@ fn is_branching(
     requires small { shape.0 < 2 ^ 32 }
     requires low { cell < 2 ^ 32 }
     requires few { length tiles.now ≤ 65536 }
-    ensures { result ≡ branching tiles.now (placed shape cells.now) cell (tiles_in (children_view children.now)) }
+    ensures { result ≡ refutes.is_branching tiles.now (placed shape cells.now) cell (tiles_in (children_view children.now)) }
 {
     if !is_free(shape, cells, cell) {
         return false;
@@ -177,7 +179,7 @@ pub fn place_pair(
 fn next_cell(axis: Axis, width: usize, cell: usize) -> usize
     requires small { width < 2 ^ 32 }
     requires low { cell < 2 ^ 32 }
-    ensures { result ≡ cell_beside axis width cell }
+    ensures { result ≡ placed_words.next_cell axis width cell }
 {
     match axis {
         Axis::One => cell + 1,

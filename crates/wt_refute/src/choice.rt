@@ -3,7 +3,7 @@ ghost use Rattle.std.specs.Prelude.{◌≡◌, ◌+◌, ◌^◌, ◌<◌, ◌≤
 ghost use Rattle.std.specs.Option.{option_map};
 ghost use Rattle.wt_refute.specs.Placed.{placed, fitting};
 ghost use Rattle.wt_refute.specs.Entries.{ascends};
-ghost use Rattle.wt_refute.specs.Standard.{citation_at as the_citation, first_citation as the_first, tighter as the_tighter, tightest as the_tightest};
+ghost use Rattle.wt_refute.specs.Standard as spec;
 
 use crate::Refuted;
 use crate::check::is_cited;
@@ -22,7 +22,7 @@ fn citation_at(
     requires small { shape.0 < 2 ^ 32 }
     requires radius { radius ≤ 4 }
     requires in_order { ascends known.now ≡ true }
-    ensures { result ≡ the_citation radius known.now (placed shape cells.now) cell }
+    ensures { result ≡ spec.citation_at radius known.now (placed shape cells.now) cell }
 {
     let at = usize::from(cell);
     if is_cited(radius, known, shape, cells, at, Axis::One) {
@@ -47,7 +47,7 @@ pub fn first_citation(
     requires few { length cells.now ≤ 65536 }
     requires radius { radius ≤ 4 }
     requires in_order { ascends known.now ≡ true }
-    ensures { result ≡ the_first radius known.now (placed shape cells.now) }
+    ensures { result ≡ spec.first_citation radius known.now (placed shape cells.now) }
 {
     for cell in 0..cells.len() {
         if let Some(at) = citation_at(radius, known, shape, cells, cell as u16) {
@@ -77,7 +77,7 @@ fn count_fitting(tiles: &[Tile], shape: (usize, usize), cells: &[Option<u16>], c
 
 /// The cell with the lower count, else the one held.
 fn tighter(new: (u16, usize), held: Option<(u16, usize)>) -> (u16, usize)
-    ensures { result ≡ the_tighter new held }
+    ensures { result ≡ spec.tighter new held }
 {
     match held {
         None => new,
@@ -92,7 +92,7 @@ pub fn tightest(tiles: &[Tile], shape: (usize, usize), cells: &[Option<u16>]) ->
     requires small { shape.0 < 2 ^ 32 }
     requires few { length tiles.now ≤ 65536 }
     requires few_cells { length cells.now ≤ 65536 }
-    ensures { result ≡ the_tightest tiles.now (placed shape cells.now) }
+    ensures { result ≡ spec.tightest tiles.now (placed shape cells.now) }
 {
     let mut held = None;
     for cell in 0..cells.len() {

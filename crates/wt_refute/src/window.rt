@@ -1,11 +1,12 @@
 // Windows with some of their tiles placed.
 ghost use Rattle.std.specs.Prelude.{◌≡◌, ◌+◌, ℕ, ◌-◌, ◌^◌, ◌<◌, ◌≤◌, [], ◌∷◌, length, MatchOption, None};
-ghost use Rattle.wt_refute.specs.Placed.{placed, tile_in as the_tile_in, is_free as the_is_free, right_of as the_right, above as the_above, left_of as the_left, below as the_below, may_join as may_stand, fits as it_fits, passing};
+ghost use Rattle.wt_refute.specs.Placed.{placed, passing};
+ghost use Rattle.wt_refute.specs.Placed as spec;
 
 use wt_tile::{Axis, Tile, is_match};
 
 pub fn tile_in(shape: (usize, usize), cells: &[Option<u16>], cell: usize) -> Option<u16>
-    ensures { result ≡ the_tile_in (placed shape cells.now) cell }
+    ensures { result ≡ spec.tile_in (placed shape cells.now) cell }
 {
     if cell < cells.len() {
         cells[cell]
@@ -15,7 +16,7 @@ pub fn tile_in(shape: (usize, usize), cells: &[Option<u16>], cell: usize) -> Opt
 }
 
 pub fn is_free(shape: (usize, usize), cells: &[Option<u16>], cell: usize) -> bool
-    ensures { result ≡ the_is_free (placed shape cells.now) cell }
+    ensures { result ≡ spec.is_free (placed shape cells.now) cell }
 {
     if cell >= cells.len() {
         return false;
@@ -30,7 +31,7 @@ pub fn right_of(shape: (usize, usize), cells: &[Option<u16>], cell: usize) -> Op
     requires wide { 0 < shape.0 }
     requires small { shape.0 < 2 ^ 32 }
     requires low { cell < 2 ^ 32 }
-    ensures { result ≡ the_right (placed shape cells.now) cell }
+    ensures { result ≡ spec.right_of (placed shape cells.now) cell }
 {
     if cell % shape.0 + 1 < shape.0 {
         tile_in(shape, cells, cell + 1)
@@ -42,14 +43,14 @@ pub fn right_of(shape: (usize, usize), cells: &[Option<u16>], cell: usize) -> Op
 pub fn above(shape: (usize, usize), cells: &[Option<u16>], cell: usize) -> Option<u16>
     requires small { shape.0 < 2 ^ 32 }
     requires low { cell < 2 ^ 32 }
-    ensures { result ≡ the_above (placed shape cells.now) cell }
+    ensures { result ≡ spec.above (placed shape cells.now) cell }
 {
     tile_in(shape, cells, cell + shape.0)
 }
 
 fn left_of(shape: (usize, usize), cells: &[Option<u16>], cell: usize) -> Option<u16>
     requires wide { 0 < shape.0 }
-    ensures { result ≡ the_left (placed shape cells.now) cell }
+    ensures { result ≡ spec.left_of (placed shape cells.now) cell }
 {
     if cell % shape.0 > 0 {
         tile_in(shape, cells, cell - 1)
@@ -59,7 +60,7 @@ fn left_of(shape: (usize, usize), cells: &[Option<u16>], cell: usize) -> Option<
 }
 
 fn below(shape: (usize, usize), cells: &[Option<u16>], cell: usize) -> Option<u16>
-    ensures { result ≡ the_below (placed shape cells.now) cell }
+    ensures { result ≡ spec.below (placed shape cells.now) cell }
 {
     if shape.0 <= cell {
         tile_in(shape, cells, cell - shape.0)
@@ -69,7 +70,7 @@ fn below(shape: (usize, usize), cells: &[Option<u16>], cell: usize) -> Option<u1
 }
 
 fn may_join(tiles: &[Tile], axis: Axis, a: Option<u16>, b: Option<u16>) -> bool
-    ensures { result ≡ may_stand tiles.now axis a b }
+    ensures { result ≡ spec.may_join tiles.now axis a b }
 {
     match a {
         None => true,
@@ -91,7 +92,7 @@ pub fn fits(
     requires wide { 0 < shape.0 }
     requires small { shape.0 < 2 ^ 32 }
     requires low { cell < 2 ^ 32 }
-    ensures { result ≡ it_fits tiles.now (placed shape cells.now) cell tile }
+    ensures { result ≡ spec.fits tiles.now (placed shape cells.now) cell tile }
 {
     may_join(tiles, Axis::One, Some(tile), right_of(shape, cells, cell))
         && may_join(tiles, Axis::Two, Some(tile), above(shape, cells, cell))
@@ -113,8 +114,8 @@ pub fn next_fitting(
     requires low { cell < 2 ^ 32 }
     requires few { length tiles.now ≤ 65536 }
     ensures { MatchOption result
-        (passing (it_fits tiles.now (placed shape cells.now) cell) from (length tiles.now - from) ≡ [])
-        (λ t. (t < length tiles.now) × (passing (it_fits tiles.now (placed shape cells.now) cell) from (length tiles.now - from) ≡ t ∷ passing (it_fits tiles.now (placed shape cells.now) cell) (t + 1) (length tiles.now - (t + 1)))) }
+        (passing (spec.fits tiles.now (placed shape cells.now) cell) from (length tiles.now - from) ≡ [])
+        (λ t. (t < length tiles.now) × (passing (spec.fits tiles.now (placed shape cells.now) cell) from (length tiles.now - from) ≡ t ∷ passing (spec.fits tiles.now (placed shape cells.now) cell) (t + 1) (length tiles.now - (t + 1)))) }
 {
     for tile in from..tiles.len() {
         if fits(tiles, shape, cells, cell, tile as u16) {

@@ -9,7 +9,7 @@ ghost use Rattle.wt_pattern.specs.Patterns.{IsPattern};
 ghost use Rattle.wt_tile.specs.declared.tile.Tile.{Tile};
 ghost use Rattle.wt_bijection.specs.Carried.{IsRenaming};
 ghost use Rattle.wt_step.specs.declared.raw.RawStep.{RawStep};
-ghost use Rattle.wt_step.specs.Faults.{step_fault as first_fault};
+ghost use Rattle.wt_step.specs.Faults as spec;
 ghost use Rattle.wt_step.specs.Meaning.{pieces};
 ghost use Rattle.wt_step.specs.declared.raw.RawLink.{RawLink};
 ghost use Rattle.wt_step.specs.Links.{link_fault, fine_of, coarse_of};
@@ -30,7 +30,7 @@ ghost use Rattle.wt_scale.specs.Pick.{power_for, pick};
 /// Each valid coarse pattern of a good marker step has an image, and that is valid: the coarse tiles of a
 /// line stand for one or two lines, which match as the step's images say.
 pub fn images_are_valid()
-    ensures { (s : RawStep) → first_fault s ≡ None → (q : Grid) → IsPattern s.coarse.tiles q
+    ensures { (s : RawStep) → spec.step_fault s ≡ None → (q : Grid) → IsPattern s.coarse.tiles q
         → IsPattern s.fine.tiles (image_grid (grid_axis s.axis) (pieces s) q)
         × IsImage (pieces s) (lines (grid_axis s.axis) q) (lines (grid_axis s.axis) (image_grid (grid_axis s.axis) (pieces s) q)) }
 {}

@@ -1,8 +1,9 @@
 // How large a pattern has to be so that a vector is no period of it.
 ghost use Rattle.std.specs.Prelude.{◌≡◌, ◌*◌, ◌^◌, ◌<◌, ◌≤◌, length, SomeIff};
-ghost use Rattle.wt_scale.specs.Scales.{side_below as below};
-ghost use Rattle.wt_scale.specs.Sizes.{size_from as run_size, turns_size as turned_size};
-ghost use Rattle.wt_scale.specs.Vectors.{digits as digits_in, reach as reach_of, size_up_to as size_for_all, size_result};
+ghost use Rattle.wt_scale.specs.Scales as scales;
+ghost use Rattle.wt_scale.specs.Sizes as sizes;
+ghost use Rattle.wt_scale.specs.Vectors.{size_result};
+ghost use Rattle.wt_scale.specs.Vectors as vectors;
 
 use wt_chain::{Accepted, End};
 use wt_step::RawLink;
@@ -20,7 +21,7 @@ pub enum SizeFault {
 
 /// The side that a pattern needs so that its coarse one by a step has this side.
 fn side_below(link: &RawLink, side: u128) -> Option<u128>
-    ensures { SomeIff result (below link.now side < 2 ^ 128) (below link.now side) }
+    ensures { SomeIff result (scales.side_below link.now side < 2 ^ 128) (scales.side_below link.now side) }
 {
     match link {
         RawLink::Marker(step) => {
@@ -37,7 +38,7 @@ fn side_below(link: &RawLink, side: u128) -> Option<u128>
 /// The same for the pattern behind a run of steps, of which the last is paid for first.
 #[tactic(auto, using(crate::proofs::Standing::larger_below))]
 fn size_from(links: &[RawLink], side: u128) -> Option<u128>
-    ensures { SomeIff result (run_size links.now side < 2 ^ 128) (run_size links.now side) }
+    ensures { SomeIff result (sizes.size_from links.now side < 2 ^ 128) (sizes.size_from links.now side) }
 {
     let [link, after @ ..] = links else {
         return Some(side);
@@ -48,7 +49,7 @@ fn size_from(links: &[RawLink], side: u128) -> Option<u128>
 /// The same for the pattern behind so many turns of a loop.
 #[tactic(auto, using(crate::proofs::Standing::larger_turns))]
 fn turns_size(links: &[RawLink], turns: u64, side: u128) -> Option<u128>
-    ensures { SomeIff result (turned_size links.now turns side < 2 ^ 128) (turned_size links.now turns side) }
+    ensures { SomeIff result (sizes.turns_size links.now turns side < 2 ^ 128) (sizes.turns_size links.now turns side) }
 {
     let mut size = side;
     for turn in 0..turns {
@@ -59,7 +60,7 @@ fn turns_size(links: &[RawLink], turns: u64, side: u128) -> Option<u128>
 
 /// How many binary digits a number has.
 fn digits(m: u64) -> u32
-    ensures value { result ≡ digits_in m }
+    ensures value { result ≡ vectors.digits m }
     ensures few { result ≤ 64 }
 {
     if m == 0 { 0 } else { m.ilog2() + 1 }
@@ -74,7 +75,7 @@ fn turns_for(expansion: u32, digits: u32) -> u64
 
 /// The length of a vector's longer component.
 fn reach(dx: i64, dy: i64) -> u64
-    ensures { result ≡ reach_of dx dy }
+    ensures { result ≡ vectors.reach dx dy }
 {
     dx.unsigned_abs().max(dy.unsigned_abs())
 }
@@ -83,7 +84,7 @@ fn reach(dx: i64, dy: i64) -> u64
 #[tactic(auto, using(crate::proofs::Standing::larger_from))]
 fn size_up_to(steps: &[RawLink], start: u16, expansion: u32, m: u64) -> Option<u128>
     requires inside { start ≤ length steps.now }
-    ensures { SomeIff result (size_for_all steps.now start expansion m < 2 ^ 128) (size_for_all steps.now start expansion m) }
+    ensures { SomeIff result (vectors.size_up_to steps.now start expansion m < 2 ^ 128) (vectors.size_up_to steps.now start expansion m) }
 {
     let (before, turned) = steps.split_at(usize::from(start));
     let turns = turns_for(expansion, digits(m));

@@ -5,10 +5,11 @@ ghost use Rattle.wt_grid.specs.Grid.{along, across};
 ghost use Rattle.wt_grid.specs.Parts.{core};
 ghost use Rattle.wt_pattern.specs.Patterns.{IsPattern};
 ghost use Rattle.wt_pattern.specs.Shape.{IsShape};
-ghost use Rattle.wt_step.specs.Words.{ends_block as ends_by};
+ghost use Rattle.wt_step.specs.Words as words;
 ghost use Rattle.wt_step.specs.Good.{GoodStep};
 ghost use Rattle.wt_step.specs.Meaning.{IsCoarse};
-ghost use Rattle.wt_step.specs.Blocks.{is_marked_line as marks_line, pairs_at, blocks_in, coarse_grid, one_if as lines_of, ends_at as ends_of, width_of as width_by, height_of as height_by};
+ghost use Rattle.wt_step.specs.Blocks.{pairs_at, blocks_in, coarse_grid};
+ghost use Rattle.wt_step.specs.Blocks as block_words;
 ghost use Rattle.wt_step.specs.Coarse.{is_marked};
 
 use crate::blocks::{Block, count_across, count_lines, find_blocks, is_marked_line};
@@ -39,7 +40,7 @@ pub fn core_across(p: &Pattern, axis: Axis, radius: u8) -> usize
 }
 
 fn ends_block(side: Side, marked: bool) -> bool
-    ensures { result ≡ ends_by side marked }
+    ensures { result ≡ words.ends_block side marked }
 {
     match side {
         Side::After => marked,
@@ -50,13 +51,13 @@ fn ends_block(side: Side, marked: bool) -> bool
 /// Whether line i of the core ends a block.
 pub fn ends_at(raw: &RawStep, p: &Pattern, i: usize) -> bool
     requires { i < 16777217 }
-    ensures { result ≡ ends_of raw.now p.now i }
+    ensures { result ≡ block_words.ends_at raw.now p.now i }
 {
     ends_block(raw.side, is_marked_line(raw, p, i))
 }
 
 pub fn one_if(cut: bool) -> u16
-    ensures value { result ≡ lines_of cut }
+    ensures value { result ≡ block_words.one_if cut }
     ensures small { result ≤ 1 }
 {
     if cut { 1 } else { 0 }
@@ -74,15 +75,15 @@ fn core_blocks(
     requires { 3 ≤ along (grid_axis raw.now.axis) (core raw.now.radius p.now) }
     ensures some { IfOk result (λ blocks. 1 ≤ length blocks.items) }
     ensures few { IfOk result (λ blocks. length blocks.items ≤ 4096) }
-    ensures value { IfOk result (λ blocks. blocks.items ≡ blocks_in (pairs_at raw.now p.now) false (lines_of low)
-        (along (grid_axis raw.now.axis) (core raw.now.radius p.now) - (lines_of low + lines_of high))) }
+    ensures value { IfOk result (λ blocks. blocks.items ≡ blocks_in (pairs_at raw.now p.now) false (block_words.one_if low)
+        (along (grid_axis raw.now.axis) (core raw.now.radius p.now) - (block_words.one_if low + block_words.one_if high))) }
 {
     let lines = core_lines(p, raw.axis, raw.radius) as u16;
     find_blocks(alloc, raw, p, one_if(low), lines - one_if(high))
 }
 
 fn width_of(axis: Axis, lines: usize, across: usize) -> usize
-    ensures { result ≡ width_by axis lines across }
+    ensures { result ≡ block_words.width_of axis lines across }
 {
     match axis {
         Axis::One => lines,
@@ -91,7 +92,7 @@ fn width_of(axis: Axis, lines: usize, across: usize) -> usize
 }
 
 fn height_of(axis: Axis, lines: usize, across: usize) -> usize
-    ensures { result ≡ height_by axis lines across }
+    ensures { result ≡ block_words.height_of axis lines across }
 {
     match axis {
         Axis::One => across,
@@ -130,8 +131,8 @@ pub fn take_apart(alloc: Global, raw: &RawStep, p: &Pattern) -> Result<Coarse, A
     requires wide { 1 ≤ across (grid_axis raw.now.axis) (core raw.now.radius p.now) }
     ensures coarse { IfOk result (λ c. IsCoarse raw.now p.now c.pattern) }
     ensures valid { IfOk result (λ c. IsPattern raw.now.coarse.tiles c.pattern) }
-    ensures low_cut { IfOk result (λ c. c.low_cut ≡ ends_by raw.now.side (is_marked raw.now p.now 0)) }
-    ensures high_cut { IfOk result (λ c. c.high_cut ≡ not (ends_by raw.now.side (is_marked raw.now p.now (along (grid_axis raw.now.axis) (core raw.now.radius p.now) - 1)))) }
+    ensures low_cut { IfOk result (λ c. c.low_cut ≡ words.ends_block raw.now.side (is_marked raw.now p.now 0)) }
+    ensures high_cut { IfOk result (λ c. c.high_cut ≡ not (words.ends_block raw.now.side (is_marked raw.now p.now (along (grid_axis raw.now.axis) (core raw.now.radius p.now) - 1)))) }
 {
     let low_cut = ends_at(raw, p, 0);
     let high_cut = !ends_at(raw, p, core_lines(p, raw.axis, raw.radius) - 1);

@@ -3,7 +3,8 @@ ghost use Rattle.std.specs.Prelude.{◌≡◌, ◌≤◌, ◌<◌, ◌-◌, ◌&
 ghost use Rattle.wt_tile.specs.Matching.{grid_axis};
 ghost use Rattle.wt_grid.specs.Grid.{along, across};
 ghost use Rattle.wt_pattern.specs.Shape.{IsShape};
-ghost use Rattle.wt_step.specs.Blocks.{cell_at as cell_of, core_at as core_of, is_marked_line as marks_line, pairs_at as pairs_of, blocks_in};
+ghost use Rattle.wt_step.specs.Blocks.{blocks_in};
+ghost use Rattle.wt_step.specs.Blocks as spec;
 
 use crate::RawStep;
 use crate::rules::{is_marker, joined};
@@ -45,7 +46,7 @@ pub fn count_across(p: &Pattern, axis: Axis) -> usize
 
 /// Cell j of line i, or 0 outside.
 pub fn cell_at(p: &Pattern, axis: Axis, i: usize, j: usize) -> u16
-    ensures { result ≡ cell_of p.now axis i j }
+    ensures { result ≡ spec.cell_at p.now axis i j }
 {
     if i >= count_lines(p, axis) || j >= count_across(p, axis) {
         return 0;
@@ -60,7 +61,7 @@ pub fn cell_at(p: &Pattern, axis: Axis, i: usize, j: usize) -> u16
 pub fn core_at(raw: &RawStep, p: &Pattern, i: usize, j: usize) -> u16
     requires line { i < 16777217 }
     requires cell { j < 16777217 }
-    ensures { result ≡ core_of raw.now p.now i j }
+    ensures { result ≡ spec.core_at raw.now p.now i j }
 {
     let radius = usize::from(raw.radius);
     cell_at(p, raw.axis, radius + i, radius + j)
@@ -68,7 +69,7 @@ pub fn core_at(raw: &RawStep, p: &Pattern, i: usize, j: usize) -> u16
 
 pub fn is_marked_line(raw: &RawStep, p: &Pattern, i: usize) -> bool
     requires { i < 16777217 }
-    ensures { result ≡ marks_line raw.now p.now i }
+    ensures { result ≡ spec.is_marked_line raw.now p.now i }
 {
     is_marker(raw, core_at(raw, p, i, 0))
 }
@@ -76,7 +77,7 @@ pub fn is_marked_line(raw: &RawStep, p: &Pattern, i: usize) -> bool
 /// Whether lines i and i + 1 are one block.
 fn pairs_at(raw: &RawStep, p: &Pattern, i: usize) -> bool
     requires { i < 16777216 }
-    ensures { result ≡ pairs_of raw.now p.now i }
+    ensures { result ≡ spec.pairs_at raw.now p.now i }
 {
     joined(
         raw.side,
@@ -88,14 +89,14 @@ fn pairs_at(raw: &RawStep, p: &Pattern, i: usize) -> bool
 /// Whether the block that begins with a line has another line, where the lines end before another.
 fn is_double(raw: &RawStep, p: &Pattern, line: u16, end: u16) -> bool
     requires { line < end }
-    ensures { result ≡ (nat_lt 1 (end - line) && pairs_of raw.now p.now line) }
+    ensures { result ≡ (nat_lt 1 (end - line) && spec.pairs_at raw.now p.now line) }
 {
     end - line > 1 && pairs_at(raw, p, usize::from(line))
 }
 
 /// How many blocks begin in the lines from one up to another.
 pub fn count_blocks(raw: &RawStep, p: &Pattern, from: u16, end: u16) -> u16
-    ensures { result ≡ length (blocks_in (pairs_of raw.now p.now) false from (end - from)) }
+    ensures { result ≡ length (blocks_in (spec.pairs_at raw.now p.now) false from (end - from)) }
 {
     let mut blocks = 0;
     let mut inside = false;
@@ -118,7 +119,7 @@ pub fn find_blocks(
     from: u16,
     end: u16,
 ) -> Result<Vec<Block>, AllocError>
-    ensures { IfOk result (λ blocks. blocks.items ≡ blocks_in (pairs_of raw.now p.now) false from (end - from)) }
+    ensures { IfOk result (λ blocks. blocks.items ≡ blocks_in (spec.pairs_at raw.now p.now) false from (end - from)) }
 {
     let mut blocks = Vec::new(alloc);
     let mut inside = false;

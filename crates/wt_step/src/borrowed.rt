@@ -1,6 +1,6 @@
 // Good steps, borrowed.
 ghost use Rattle.std.specs.Prelude.{◌≡◌, None};
-ghost use Rattle.wt_step.specs.Restrict.{restrict_fault as first_fault};
+ghost use Rattle.wt_step.specs.Restrict as spec;
 
 use crate::{RawRestrict, StepRef};
 
@@ -8,7 +8,7 @@ use crate::{RawRestrict, StepRef};
 #[derive(Clone, Copy)]
 pub struct RestrictRef<'a> {
     pub raw: &'a RawRestrict,
-    pub ghost good: { first_fault raw.now ≡ None },
+    pub ghost good: { spec.restrict_fault raw.now ≡ None },
 }
 
 /// A good step of either kind, borrowed.

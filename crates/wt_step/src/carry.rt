@@ -9,7 +9,8 @@ ghost use Rattle.wt_pattern.specs.Shape.{IsShape};
 ghost use Rattle.wt_step.specs.Links.{fine_of};
 ghost use Rattle.wt_step.specs.Views.{link_of};
 ghost use Rattle.wt_step.specs.Coarse.{IsCoarseOf};
-ghost use Rattle.wt_step.specs.Carried.{magnitude, blocks_begun as begun_of, in_blocks as blocks_of, vector_along as along_of, carried_vector as carried_by, has_room_along as room_along, has_room as room_by, IsCountedBy};
+ghost use Rattle.wt_step.specs.Carried.{magnitude, IsCountedBy};
+ghost use Rattle.wt_step.specs.Carried as spec;
 
 use crate::apart::{core_across, core_lines, ends_at, one_if};
 use crate::blocks::{count_blocks, count_lines};
@@ -27,7 +28,7 @@ fn fits(d: i64, more: u64, side: usize) -> bool
 
 fn marker_room(raw: &RawStep, p: &Pattern, dx: i64, dy: i64) -> bool
     ensures shape { IsShape p.now }
-    ensures value { result ≡ room_along raw.now.axis (core raw.now.radius p.now) dx dy }
+    ensures value { result ≡ spec.has_room_along raw.now.axis (core raw.now.radius p.now) dx dy }
 {
     let width = core_lines(p, Axis::One, raw.radius);
     let height = core_across(p, Axis::One, raw.radius);
@@ -42,7 +43,7 @@ fn marker_room(raw: &RawStep, p: &Pattern, dx: i64, dy: i64) -> bool
 /// than the vector. Takes no memory.
 pub fn has_room(link: LinkRef<'_>, p: &Pattern, dx: i64, dy: i64) -> bool
     ensures shape { IsShape p.now }
-    ensures value { result ≡ room_by (link_of link.entry) p.now dx dy }
+    ensures value { result ≡ spec.has_room (link_of link.entry) p.now dx dy }
 {
     match link {
         LinkRef::Marker(step) => marker_room(step.raw, p, dx, dy),
@@ -65,7 +66,7 @@ fn lines_of(p: &Pattern, axis: Axis, d: i64) -> u16
 /// How many blocks begin in the first lines of the cut core.
 fn blocks_begun(raw: &RawStep, p: &Pattern, lines: u16) -> u16
     requires { lines ≤ 4096 }
-    ensures { result ≡ begun_of raw.now p.now lines }
+    ensures { result ≡ spec.blocks_begun raw.now p.now lines }
 {
     let from = one_if(ends_at(raw, p, 0));
     count_blocks(raw, p, from, from + lines)
@@ -74,7 +75,7 @@ fn blocks_begun(raw: &RawStep, p: &Pattern, lines: u16) -> u16
 /// A component along the step's axis, counted in blocks.
 fn in_blocks(raw: &RawStep, p: &Pattern, d: i64) -> i64
     requires { magnitude d ≤ along (grid_axis raw.now.axis) p.now }
-    ensures { result ≡ blocks_of raw.now p.now d }
+    ensures { result ≡ spec.in_blocks raw.now p.now d }
 {
     let blocks = i64::from(blocks_begun(raw, p, lines_of(p, raw.axis, d)));
     if d < 0 { -blocks } else { blocks }
@@ -82,8 +83,8 @@ fn in_blocks(raw: &RawStep, p: &Pattern, d: i64) -> i64
 
 /// A vector whose component along the step's axis is counted in blocks.
 fn vector_along(raw: &RawStep, p: &Pattern, dx: i64, dy: i64) -> (i64, i64)
-    requires { room_along raw.now.axis (core raw.now.radius p.now) dx dy ≡ true }
-    ensures { result ≡ along_of raw.now.axis raw.now p.now dx dy }
+    requires { spec.has_room_along raw.now.axis (core raw.now.radius p.now) dx dy ≡ true }
+    ensures { result ≡ spec.vector_along raw.now.axis raw.now p.now dx dy }
 {
     match raw.axis {
         Axis::One => (in_blocks(raw, p, dx), dy),
@@ -93,8 +94,8 @@ fn vector_along(raw: &RawStep, p: &Pattern, dx: i64, dy: i64) -> (i64, i64)
 
 /// The same by a step of either kind.
 fn carried_vector(link: LinkRef<'_>, p: &Pattern, dx: i64, dy: i64) -> (i64, i64)
-    requires { room_by (link_of link) p.now dx dy ≡ true }
-    ensures { result ≡ carried_by (link_of link.entry) p.now dx dy }
+    requires { spec.has_room (link_of link) p.now dx dy ≡ true }
+    ensures { result ≡ spec.carried_vector (link_of link.entry) p.now dx dy }
 {
     match link {
         LinkRef::Marker(step) => vector_along(step.raw, p, dx, dy),
@@ -109,7 +110,7 @@ fn carried_vector(link: LinkRef<'_>, p: &Pattern, dx: i64, dy: i64) -> (i64, i64
 pub fn carry_period(link: LinkRef<'_>, p: &Pattern, dx: i64, dy: i64) -> (i64, i64)
     requires pattern { IsPattern (fine_of (link_of link)).tiles p.now }
     requires period { IsPeriod p.now dx dy }
-    requires room { room_by (link_of link) p.now dx dy ≡ true }
+    requires room { spec.has_room (link_of link) p.now dx dy ≡ true }
     ensures value { (q : Grid) → IsGrid q → IsCoarseOf (link_of link.entry) p.now q → IsCountedBy (link_of link.entry) q dx dy result }
     ensures period { (q : Grid) → IsGrid q → IsCoarseOf (link_of link.entry) p.now q → IsPeriod q result.0 result.1 }
     ensures shorter { (magnitude result.0 ≤ magnitude dx) × (magnitude result.1 ≤ magnitude dy) }

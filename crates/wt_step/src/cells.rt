@@ -2,7 +2,8 @@
 ghost use Rattle.std.specs.Prelude.{◌≡◌, ◌≤◌, ◌<◌, slice_index, IfOk};
 ghost use Rattle.wt_grid.specs.Grid.{listed};
 ghost use Rattle.wt_step.specs.Good.{GoodStep};
-ghost use Rattle.wt_step.specs.Blocks.{block_tile as tile_of, block_at as block_of, coarse_at as coarse_of, coarse_cell};
+ghost use Rattle.wt_step.specs.Blocks.{coarse_cell};
+ghost use Rattle.wt_step.specs.Blocks as spec;
 
 use crate::RawStep;
 use crate::blocks::{Block, core_at};
@@ -19,7 +20,7 @@ pub fn number_at(numbers: &[u16], i: usize) -> u16
 }
 
 fn block_at(blocks: &[Block], i: usize) -> Block
-    ensures { result ≡ block_of blocks.now i }
+    ensures { result ≡ spec.block_at blocks.now i }
 {
     if i < blocks.len() {
         blocks[i]
@@ -35,7 +36,7 @@ fn block_at(blocks: &[Block], i: usize) -> Block
 fn block_tile(raw: &RawStep, p: &Pattern, index: &Index, block: Block, j: usize) -> u16
     requires good { GoodStep raw.now }
     requires cell { j < 16777217 }
-    ensures { result ≡ tile_of raw.now p.now index.now.singles.items index.now.pairs.items block j }
+    ensures { result ≡ spec.block_tile raw.now p.now index.now.singles.items index.now.pairs.items block j }
 {
     let line = usize::from(block.line);
     let a = core_at(raw, p, line, j);
@@ -53,7 +54,7 @@ fn coarse_at(raw: &RawStep, p: &Pattern, index: &Index, blocks: &[Block], x: usi
     requires good { GoodStep raw.now }
     requires column { x < 16777217 }
     requires row { y < 16777217 }
-    ensures { result ≡ coarse_of raw.now p.now index.now.singles.items index.now.pairs.items blocks.now raw.now.axis x y }
+    ensures { result ≡ spec.coarse_at raw.now p.now index.now.singles.items index.now.pairs.items blocks.now raw.now.axis x y }
 {
     match raw.axis {
         Axis::One => block_tile(raw, p, index, block_at(blocks, x), y),

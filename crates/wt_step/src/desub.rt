@@ -8,7 +8,8 @@ ghost use Rattle.wt_pattern.specs.Shape.{IsShape};
 ghost use Rattle.wt_pattern.specs.Validity.{first_stranger, first_fault};
 ghost use Rattle.wt_step.specs.Links.{fine_of, coarse_of};
 ghost use Rattle.wt_step.specs.Views.{link_of};
-ghost use Rattle.wt_step.specs.Coarse.{IsCoarseOf, has_margin as margin_of, cuts_low, cuts_high, desub_fault};
+ghost use Rattle.wt_step.specs.Coarse.{IsCoarseOf, cuts_low, cuts_high, desub_fault};
+ghost use Rattle.wt_step.specs.Coarse as spec;
 
 use crate::apart::{core_across, core_lines, take_apart};
 use crate::keep::keep;
@@ -34,7 +35,7 @@ fn restrict_margin(raw: &RawRestrict, p: &Pattern) -> bool
 /// Whether the core is as large as the law of desubstitution asks.
 fn has_margin(link: LinkRef<'_>, p: &Pattern) -> bool
     ensures shape { IsShape p.now }
-    ensures value { result ≡ margin_of (link_of link.entry) p.now }
+    ensures value { result ≡ spec.has_margin (link_of link.entry) p.now }
 {
     match link {
         LinkRef::Marker(step) => marker_margin(step.raw, p),
@@ -46,7 +47,7 @@ fn has_margin(link: LinkRef<'_>, p: &Pattern) -> bool
 #[tactic(auto, using(crate::proofs::Margins::marker_long, crate::proofs::Margins::marker_wide, crate::proofs::Margins::kept_wide, crate::proofs::Margins::kept_high))]
 fn desubstitute_valid(alloc: Global, link: LinkRef<'_>, p: &Pattern) -> Result<Coarse, AllocError>
     requires pattern { IsPattern (fine_of (link_of link)).tiles p.now }
-    requires margin { margin_of (link_of link) p.now ≡ true }
+    requires margin { spec.has_margin (link_of link) p.now ≡ true }
     ensures coarse { IfOk result (λ c. IsCoarseOf (link_of link.entry) p.now c.pattern) }
     ensures valid { IfOk result (λ c. IsPattern (coarse_of (link_of link.entry)).tiles c.pattern) }
     ensures low_cut { IfOk result (λ c. c.low_cut ≡ cuts_low (link_of link.entry) p.now) }

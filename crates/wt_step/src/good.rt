@@ -1,6 +1,6 @@
 // Good steps, owned or borrowed.
 ghost use Rattle.std.specs.Prelude.{◌≡◌, None, Some, MatchResult};
-ghost use Rattle.wt_step.specs.Faults.{step_fault as first_fault};
+ghost use Rattle.wt_step.specs.Faults as spec;
 
 use crate::step::step_fault;
 use crate::{RawStep, StepFault};
@@ -32,14 +32,14 @@ impl Model for Step {
 #[derive(Clone, Copy)]
 pub struct StepRef<'a> {
     pub raw: &'a RawStep,
-    pub ghost good: { first_fault raw.now ≡ None },
+    pub ghost good: { spec.step_fault raw.now ≡ None },
 }
 
 /// Takes a good marker step, or gives it back with its first failing condition. Takes no memory.
 pub fn accept_step(raw: RawStep) -> Result<Step, (RawStep, StepFault)>
     ensures { MatchResult result
-        (λ step. (step ≡ raw) × (first_fault raw ≡ None))
-        (λ e. (e.0 ≡ raw) × (first_fault raw ≡ Some e.1)) }
+        (λ step. (step ≡ raw) × (spec.step_fault raw ≡ None))
+        (λ e. (e.0 ≡ raw) × (spec.step_fault raw ≡ Some e.1)) }
 {
     match step_fault(&raw) {
         None => Ok(Step { raw }),
@@ -58,7 +58,7 @@ impl Step {
     /// The step as it was read. Takes no memory.
     pub fn into_raw(self) -> RawStep
         ensures same { result ≡ self }
-        ensures good { first_fault result ≡ None }
+        ensures good { spec.step_fault result ≡ None }
     {
         self.raw
     }
@@ -67,7 +67,7 @@ impl Step {
 impl<'a> StepRef<'a> {
     /// Borrows a step that is known to be good.
     pub fn new(raw: &'a RawStep) -> StepRef<'a>
-        requires { first_fault raw.now ≡ None }
+        requires { spec.step_fault raw.now ≡ None }
         ensures { result.raw.now ≡ raw.now }
     {
         StepRef { raw }

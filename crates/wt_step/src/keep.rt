@@ -5,7 +5,8 @@ ghost use Rattle.wt_grid.specs.Parts.{core};
 ghost use Rattle.wt_pattern.specs.Patterns.{IsPattern};
 ghost use Rattle.wt_step.specs.Good.{GoodRestrict};
 ghost use Rattle.wt_step.specs.Meaning.{IsKept};
-ghost use Rattle.wt_step.specs.Blocks.{IsPlaced, kept_tile as tile_of, kept_cell};
+ghost use Rattle.wt_step.specs.Blocks.{IsPlaced, kept_cell};
+ghost use Rattle.wt_step.specs.Blocks as spec;
 
 use crate::RawRestrict;
 use crate::apart::{core_across, core_lines};
@@ -57,7 +58,7 @@ fn place_kept(alloc: Global, raw: &RawRestrict) -> Result<Vec<u16>, AllocError>
 fn kept_tile(raw: &RawRestrict, p: &Pattern, places: &[u16], x: usize, y: usize) -> u16
     requires column { x < 16777217 }
     requires row { y < 16777217 }
-    ensures { result ≡ tile_of raw.now p.now places.now x y }
+    ensures { result ≡ spec.kept_tile raw.now p.now places.now x y }
 {
     let radius = usize::from(raw.radius);
     number_at(
@@ -100,7 +101,7 @@ fn kept_pattern(
     requires narrow { width ≤ 4096 }
     requires high { 1 ≤ height }
     requires low { height ≤ 4096 }
-    ensures { IfOk result (λ q. q ≡ grid_of width height (tile_of raw.now p.now places.now)) }
+    ensures { IfOk result (λ q. q ≡ grid_of width height (spec.kept_tile raw.now p.now places.now)) }
 {
     let cells = kept_cells(alloc, raw, p, places, width, width * height)?;
     Ok(Pattern::of(width, height, cells))

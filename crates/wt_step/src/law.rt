@@ -10,8 +10,9 @@ ghost use Rattle.wt_pattern.specs.Patterns.{IsPattern};
 ghost use Rattle.wt_step.specs.declared.raw.RawStep.{RawStep};
 ghost use Rattle.wt_step.specs.declared.raw.RawRestrict.{RawRestrict};
 ghost use Rattle.wt_step.specs.Words.{is_marker};
-ghost use Rattle.wt_step.specs.Faults.{step_fault as first_fault};
-ghost use Rattle.wt_step.specs.Restrict.{restrict_fault as first_restrict_fault, is_kept};
+ghost use Rattle.wt_step.specs.Faults as faults;
+ghost use Rattle.wt_step.specs.Restrict.{is_kept};
+ghost use Rattle.wt_step.specs.Restrict as restrict;
 ghost use Rattle.wt_step.specs.Good.{GoodStep, GoodRestrict};
 ghost use Rattle.wt_step.specs.Meaning.{line_side, allowing, pieces, cut_core, IsCoarse, IsKept};
 ghost use Rattle.wt_step.specs.declared.raw.RawLink.TheVariants.{Marker};
@@ -20,22 +21,22 @@ ghost use Rattle.wt_step.specs.Carried.{IsCarried};
 
 /// A marker step has no fault exactly where it is good.
 pub fn good_steps()
-    ensures good { (s : RawStep) → first_fault s ≡ None → GoodStep s }
-    ensures back { (s : RawStep) → GoodStep s → first_fault s ≡ None }
+    ensures good { (s : RawStep) → faults.step_fault s ≡ None → GoodStep s }
+    ensures back { (s : RawStep) → GoodStep s → faults.step_fault s ≡ None }
 {}
 
 /// A restrict step has no fault exactly where it is good.
 pub fn good_restricts()
-    ensures good { (s : RawRestrict) → first_restrict_fault s ≡ None → GoodRestrict s }
-    ensures back { (s : RawRestrict) → GoodRestrict s → first_restrict_fault s ≡ None }
+    ensures good { (s : RawRestrict) → restrict.restrict_fault s ≡ None → GoodRestrict s }
+    ensures back { (s : RawRestrict) → GoodRestrict s → restrict.restrict_fault s ≡ None }
 {}
 
 /// In the core of a valid pattern each two neighbours are an allowed pair of the marker step, since
 /// the window of every other pair that matches is empty. In the core of a restrict step each tile
 /// is a kept one.
 pub fn cores_are_plain()
-    ensures allowed { (s : RawStep) → first_fault s ≡ None → (p : Grid) → IsPattern s.fine.tiles p → IsValid (allowing s) (core s.radius p) }
-    ensures kept { (s : RawRestrict) → first_restrict_fault s ≡ None → (p : Grid) → IsPattern s.fine.tiles p
+    ensures allowed { (s : RawStep) → faults.step_fault s ≡ None → (p : Grid) → IsPattern s.fine.tiles p → IsValid (allowing s) (core s.radius p) }
+    ensures kept { (s : RawRestrict) → restrict.restrict_fault s ≡ None → (p : Grid) → IsPattern s.fine.tiles p
         → (x y : ℕ) → x < (core s.radius p).width → y < (core s.radius p).height → is_kept s (cell (core s.radius p) x y) ≡ true }
 {}
 
@@ -43,12 +44,12 @@ pub fn cores_are_plain()
 /// one coarse pattern, and that is valid. Of any other coarse pattern whose image is a run of whole
 /// lines of the core, each block but the one at the open end is a block of that one, at the same lines.
 pub fn desubstitutes()
-    ensures some { (s : RawStep) → first_fault s ≡ None → (p : Grid) → IsPattern s.fine.tiles p
+    ensures some { (s : RawStep) → faults.step_fault s ≡ None → (p : Grid) → IsPattern s.fine.tiles p
         → 3 ≤ along (grid_axis s.axis) (core s.radius p) → 1 ≤ across (grid_axis s.axis) (core s.radius p)
         → (q : Grid) × IsCoarse s p q × IsPattern s.coarse.tiles q }
-    ensures one { (s : RawStep) → first_fault s ≡ None → (p q r : Grid) → 1 ≤ across (grid_axis s.axis) (core s.radius p)
+    ensures one { (s : RawStep) → faults.step_fault s ≡ None → (p q r : Grid) → 1 ≤ across (grid_axis s.axis) (core s.radius p)
         → IsGrid q → IsGrid r → IsCoarse s p q → IsCoarse s p r → q ≡ r }
-    ensures others { (s : RawStep) → first_fault s ≡ None → (p q r : Grid) → 1 ≤ across (grid_axis s.axis) (core s.radius p) → IsGrid r → IsCoarse s p q
+    ensures others { (s : RawStep) → faults.step_fault s ≡ None → (p q r : Grid) → 1 ≤ across (grid_axis s.axis) (core s.radius p) → IsGrid r → IsCoarse s p q
         → (front run back : List (List ℕ)) → lines (grid_axis s.axis) (core s.radius p) ≡ front ++ (run ++ back) → IsImage (pieces s) (lines (grid_axis s.axis) r) run
         → (qa : List (List ℕ)) × (qb : List (List ℕ)) × (lines (grid_axis s.axis) q ≡ qa ++ (closed (line_side s.side) (lines (grid_axis s.axis) r) ++ qb))
         × Fills (line_side s.side) (is_marker s) (pieces s) qa qb front back }
@@ -66,7 +67,7 @@ pub fn cuts_are_the_border_lines()
 /// the core has three lines more along the axis than the period, and one more across. The period's part
 /// along the axis is counted in blocks instead of lines.
 pub fn periods_are_carried()
-    ensures { (s : RawStep) → first_fault s ≡ None → (p q : Grid) → IsPattern s.fine.tiles p → IsGrid q → IsCoarse s p q
+    ensures { (s : RawStep) → faults.step_fault s ≡ None → (p q : Grid) → IsPattern s.fine.tiles p → IsGrid q → IsCoarse s p q
         → (opposed : Bool) (d e : ℕ) → d + 3 ≤ along (grid_axis s.axis) (core s.radius p) → e < across (grid_axis s.axis) (core s.radius p)
         → HasVector (grid_axis s.axis) opposed d e p → (n : ℕ) × IsCarried s opposed d e n q }
 {}
@@ -74,9 +75,9 @@ pub fn periods_are_carried()
 /// The core of each valid pattern is, for a restrict step, the image of exactly one coarse pattern,
 /// and that is valid.
 pub fn restricts()
-    ensures some { (s : RawRestrict) → first_restrict_fault s ≡ None → (p : Grid) → IsPattern s.fine.tiles p
+    ensures some { (s : RawRestrict) → restrict.restrict_fault s ≡ None → (p : Grid) → IsPattern s.fine.tiles p
         → 1 ≤ (core s.radius p).width → 1 ≤ (core s.radius p).height
         → (q : Grid) × IsKept s p q × IsPattern s.coarse.tiles q }
-    ensures one { (s : RawRestrict) → first_restrict_fault s ≡ None → (p q r : Grid) → 1 ≤ (core s.radius p).height
+    ensures one { (s : RawRestrict) → restrict.restrict_fault s ≡ None → (p q r : Grid) → 1 ≤ (core s.radius p).height
         → IsGrid q → IsGrid r → IsKept s p q → IsKept s p r → q ≡ r }
 {}

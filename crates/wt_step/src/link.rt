@@ -1,8 +1,9 @@
 // Good steps of either kind, owned or borrowed.
 ghost use Rattle.std.specs.Prelude.{◌≡◌, None, Some, MatchResult};
-ghost use Rattle.wt_step.specs.Links.{link_fault as first_fault, fine_of, coarse_of, radius_of};
+ghost use Rattle.wt_step.specs.Links.{fine_of, coarse_of, radius_of};
+ghost use Rattle.wt_step.specs.Links as links;
 ghost use Rattle.wt_step.specs.Views.{link_of};
-ghost use Rattle.wt_step.specs.declared.raw.RawLink.TheVariants.{Marker as MarkerLink};
+ghost use Rattle.wt_step.specs.declared.raw.RawLink.TheVariants as raw_link;
 
 use crate::restrict::restrict_fault;
 use crate::step::step_fault;
@@ -35,7 +36,7 @@ impl Model for Link {
 /// The first failing condition of a step, or none exactly where it is good. Takes no memory.
 #[tactic(auto, unfolding(crate::specs::Links::link_fault))]
 pub fn link_fault(raw: &RawLink) -> Option<StepFault>
-    ensures { result ≡ first_fault raw.now }
+    ensures { result ≡ links.link_fault raw.now }
 {
     match raw {
         RawLink::Marker(step) => step_fault(step),
@@ -46,8 +47,8 @@ pub fn link_fault(raw: &RawLink) -> Option<StepFault>
 /// Takes a good step of either kind, or gives it back with its first failing condition. Takes no memory.
 pub fn accept_link(raw: RawLink) -> Result<Link, (RawLink, StepFault)>
     ensures { MatchResult result
-        (λ link. (link ≡ raw) × (first_fault raw ≡ None))
-        (λ e. (e.0 ≡ raw) × (first_fault raw ≡ Some e.1)) }
+        (λ link. (link ≡ raw) × (links.link_fault raw ≡ None))
+        (λ e. (e.0 ≡ raw) × (links.link_fault raw ≡ Some e.1)) }
 {
     match link_fault(&raw) {
         None => Ok(Link { raw }),
@@ -59,7 +60,7 @@ impl Link {
     /// The link of a marker step.
     #[tactic(auto, unfolding(crate::specs::Links::link_fault))]
     pub fn marker(step: Step) -> Link
-        ensures { result ≡ MarkerLink step }
+        ensures { result ≡ raw_link.Marker step }
     {
         Link {
             raw: RawLink::Marker(step.into_raw()),
@@ -76,7 +77,7 @@ impl Link {
     /// The step as it was read. Takes no memory.
     pub fn into_raw(self) -> RawLink
         ensures same { result ≡ self }
-        ensures good { first_fault result ≡ None }
+        ensures good { links.link_fault result ≡ None }
     {
         self.raw
     }
@@ -86,7 +87,7 @@ impl<'a> LinkRef<'a> {
     /// Borrows a step that is known to be good.
     #[tactic(auto, unfolding(crate::specs::Links::link_fault))]
     pub fn new(raw: &'a RawLink) -> LinkRef<'a>
-        requires { first_fault raw.now ≡ None }
+        requires { links.link_fault raw.now ≡ None }
         ensures { link_of result ≡ raw.now }
     {
         match raw {

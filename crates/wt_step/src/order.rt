@@ -1,8 +1,8 @@
 // Lists in strict order, and look-ups in them.
 ghost use Rattle.std.specs.Prelude.{◌≡◌, nat_eq};
 ghost use Rattle.wt_grid.specs.Order.{in_order, leads, is_below, has, follows};
-ghost use Rattle.wt_grid.specs.Pairs.{pairs_follow, pair_fits as fits_pair};
-ghost use Rattle.wt_grid.specs.Pairs.{pair_before as before_pair, is_pair as pair_is};
+ghost use Rattle.wt_grid.specs.Pairs.{pairs_follow};
+ghost use Rattle.wt_grid.specs.Pairs as spec;
 
 /// Whether numbers ascend and are below a bound.
 pub fn numbers_ascend(below: usize, numbers: &[u16]) -> bool
@@ -40,19 +40,19 @@ pub fn is_among(number: u16, numbers: &[u16]) -> bool
 }
 
 pub fn pair_before(a: u16, b: u16, pair: (u16, u16)) -> bool
-    ensures { result ≡ before_pair a b pair }
+    ensures { result ≡ spec.pair_before a b pair }
 {
     pair.0 < a || (pair.0 == a && pair.1 < b)
 }
 
 pub fn is_pair(a: u16, b: u16, pair: (u16, u16)) -> bool
-    ensures { result ≡ pair_is a b pair }
+    ensures { result ≡ spec.is_pair a b pair }
 {
     pair.0 == a && pair.1 == b
 }
 
 fn pair_fits(below: usize, pair: (u16, u16)) -> bool
-    ensures { result ≡ fits_pair below pair }
+    ensures { result ≡ spec.pair_fits below pair }
 {
     usize::from(pair.0) < below && usize::from(pair.1) < below
 }
@@ -68,7 +68,7 @@ fn pair_leads(pair: (u16, u16), after: &[(u16, u16)]) -> bool
 
 /// Whether pairs ascend and their numbers are below a bound.
 pub fn pairs_ascend(below: usize, pairs: &[(u16, u16)]) -> bool
-    ensures { result ≡ in_order (fits_pair below) pairs_follow pairs.now }
+    ensures { result ≡ in_order (spec.pair_fits below) pairs_follow pairs.now }
 {
     let mut left = pairs;
     while let [pair, after @ ..] = left {

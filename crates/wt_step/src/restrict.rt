@@ -1,7 +1,8 @@
 // Restrict steps: the tests.
 ghost use Rattle.std.specs.Prelude.{◌≡◌, ◌≤◌, length};
 ghost use Rattle.wt_grid.specs.Order.{in_order, leads, has};
-ghost use Rattle.wt_step.specs.Restrict.{kept_fit as kept_right, lost_fit as lost_right, lost_below, losses_follow, loses, is_lost as lost_in, sorted_fault_at as sorted_at, sorted_fault as first_unsorted, sorting_fault as first_unfit, lost_fault_at as lost_at, lost_fault as first_lost, kept_at as kept_of, kept_join_at as join_at, kept_join_row as first_of_row, kept_join_fault as first_join, use_fault as first_in_use, restrict_fault as first_fault, IsSorted};
+ghost use Rattle.wt_step.specs.Restrict.{lost_below, losses_follow, loses, IsSorted};
+ghost use Rattle.wt_step.specs.Restrict as spec;
 
 use crate::order::{is_among, numbers_ascend};
 use crate::rules::agree;
@@ -10,7 +11,7 @@ use wt_refute::check_tile_tree;
 use wt_tile::{Axis, SetRef, is_match, set_fault};
 
 fn kept_fit(raw: &RawRestrict) -> bool
-    ensures { result ≡ kept_right raw.now }
+    ensures { result ≡ spec.kept_fit raw.now }
 {
     let kept = raw.kept.as_slice();
     numbers_ascend(raw.fine.tiles.as_slice().len(), kept)
@@ -51,7 +52,7 @@ fn is_lost(tile: u16, losses: &[Lost]) -> bool
 }
 
 fn sorted_fault_at(raw: &RawRestrict, tile: u16) -> Option<StepFault>
-    ensures { result ≡ sorted_at raw.now tile }
+    ensures { result ≡ spec.sorted_fault_at raw.now tile }
 {
     let kept = is_among(tile, raw.kept.as_slice());
     if agree(is_lost(tile, raw.lost.as_slice()), !kept) {
@@ -64,7 +65,7 @@ fn sorted_fault_at(raw: &RawRestrict, tile: u16) -> Option<StepFault>
 #[tactic(auto, using(wt_grid::proofs::First::first_more))]
 fn sorted_fault(raw: &RawRestrict) -> Option<StepFault>
     requires { length raw.now.fine.tiles ≤ 256 }
-    ensures { result ≡ first_unsorted raw.now }
+    ensures { result ≡ spec.sorted_fault raw.now }
 {
     for tile in 0..raw.fine.tiles.as_slice().len() as u16 {
         if let Some(fault) = sorted_fault_at(raw, tile) {
@@ -77,7 +78,7 @@ fn sorted_fault(raw: &RawRestrict) -> Option<StepFault>
 /// The first fault of the lists.
 #[tactic(auto, unfolding(crate::specs::Restrict::sorting_fault), using(wt_tile::proofs::Sizes::few_tiles))]
 fn sorting_fault(raw: &RawRestrict) -> Option<StepFault>
-    ensures { result ≡ first_unfit raw.now }
+    ensures { result ≡ spec.sorting_fault raw.now }
 {
     if raw.radius > 4 {
         return Some(StepFault::Radius);
@@ -99,7 +100,7 @@ fn sorting_fault(raw: &RawRestrict) -> Option<StepFault>
 
 fn lost_fault_at(raw: &RawRestrict, lost: &Lost) -> Option<StepFault>
     requires { IsSorted raw.now }
-    ensures { result ≡ lost_at raw.now lost.now }
+    ensures { result ≡ spec.lost_fault_at raw.now lost.now }
 {
     let set = SetRef::of(&raw.fine);
     match check_tile_tree(set, lost.tile, raw.radius, &lost.tree) {
@@ -114,7 +115,7 @@ fn lost_fault_at(raw: &RawRestrict, lost: &Lost) -> Option<StepFault>
 /// The first lost tile whose tree doesn't refute its window.
 fn lost_fault(raw: &RawRestrict) -> Option<StepFault>
     requires { IsSorted raw.now }
-    ensures { result ≡ first_lost raw.now }
+    ensures { result ≡ spec.lost_fault raw.now }
 {
     for lost in raw.lost.as_slice() {
         if let Some(fault) = lost_fault_at(raw, lost) {
@@ -125,7 +126,7 @@ fn lost_fault(raw: &RawRestrict) -> Option<StepFault>
 }
 
 pub fn kept_at(raw: &RawRestrict, i: u16) -> u16
-    ensures { result ≡ kept_of raw.now i }
+    ensures { result ≡ spec.kept_at raw.now i }
 {
     let kept = raw.kept.as_slice();
     if usize::from(i) < kept.len() {
@@ -136,7 +137,7 @@ pub fn kept_at(raw: &RawRestrict, i: u16) -> u16
 }
 
 fn kept_join_at(raw: &RawRestrict, axis: Axis, i: u16, j: u16) -> Option<StepFault>
-    ensures { result ≡ join_at raw.now axis i j }
+    ensures { result ≡ spec.kept_join_at raw.now axis i j }
 {
     let joined = is_match(raw.coarse.tiles.as_slice(), axis, i, j);
     let wanted = is_match(
@@ -163,7 +164,7 @@ fn count_coarse(raw: &RawRestrict) -> u16
 #[tactic(auto, using(wt_grid::proofs::First::first_more))]
 fn kept_join_row(raw: &RawRestrict, axis: Axis, i: u16) -> Option<StepFault>
     requires { IsSorted raw.now }
-    ensures { result ≡ first_of_row raw.now axis i }
+    ensures { result ≡ spec.kept_join_row raw.now axis i }
 {
     for j in 0..count_coarse(raw) {
         if let Some(fault) = kept_join_at(raw, axis, i, j) {
@@ -177,7 +178,7 @@ fn kept_join_row(raw: &RawRestrict, axis: Axis, i: u16) -> Option<StepFault>
 #[tactic(auto, using(wt_grid::proofs::First::first_more))]
 fn kept_join_fault(raw: &RawRestrict, axis: Axis) -> Option<StepFault>
     requires { IsSorted raw.now }
-    ensures { result ≡ first_join raw.now axis }
+    ensures { result ≡ spec.kept_join_fault raw.now axis }
 {
     for i in 0..count_coarse(raw) {
         if let Some(fault) = kept_join_row(raw, axis, i) {
@@ -189,7 +190,7 @@ fn kept_join_fault(raw: &RawRestrict, axis: Axis) -> Option<StepFault>
 
 fn use_fault(raw: &RawRestrict) -> Option<StepFault>
     requires { IsSorted raw.now }
-    ensures { result ≡ first_in_use raw.now }
+    ensures { result ≡ spec.use_fault raw.now }
 {
     if let Some(fault) = lost_fault(raw) {
         return Some(fault);
@@ -203,7 +204,7 @@ fn use_fault(raw: &RawRestrict) -> Option<StepFault>
 /// The first failing condition of a restrict step.
 #[tactic(auto, unfolding(crate::specs::Restrict::restrict_fault))]
 pub fn restrict_fault(raw: &RawRestrict) -> Option<StepFault>
-    ensures { result ≡ first_fault raw.now }
+    ensures { result ≡ spec.restrict_fault raw.now }
 {
     match sorting_fault(raw) {
         Some(fault) => Some(fault),

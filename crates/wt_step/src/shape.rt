@@ -1,9 +1,10 @@
 // Lists in order and in range.
 ghost use Rattle.std.specs.Prelude.{◌≡◌, ◌≤◌, length};
 ghost use Rattle.wt_grid.specs.Order.{in_order, leads, all_of};
-ghost use Rattle.wt_step.specs.Words.{entry_fits as fits_entry, image_fits as fits_image, allowed as allowed_pairs};
+ghost use Rattle.wt_step.specs.Words as words;
 ghost use Rattle.wt_refute.specs.Entries.{entries_follow};
-ghost use Rattle.wt_step.specs.Faults.{shape_fault as first_fault, markers_fit as markers_right, allowed_fit as allowed_right, refuted_fit as refuted_right, images_fit as images_right, IsShaped};
+ghost use Rattle.wt_step.specs.Faults.{IsShaped};
+ghost use Rattle.wt_step.specs.Faults as faults;
 
 use crate::order::{numbers_ascend, pairs_ascend};
 use crate::{RawStep, StepFault};
@@ -12,7 +13,7 @@ use wt_refute::{Refuted, entry_before};
 use wt_tile::{Axis, set_fault};
 
 fn entry_fits(radius: u8, below: usize, entry: &Refuted) -> bool
-    ensures { result ≡ fits_entry radius below entry.now }
+    ensures { result ≡ words.entry_fits radius below entry.now }
 {
     entry.radius <= radius && usize::from(entry.a) < below && usize::from(entry.b) < below
 }
@@ -27,7 +28,7 @@ fn entry_leads(entry: &Refuted, after: &[Refuted]) -> bool
 }
 
 fn entries_ascend(radius: u8, below: usize, entries: &[Refuted]) -> bool
-    ensures { result ≡ in_order (fits_entry radius below) entries_follow entries.now }
+    ensures { result ≡ in_order (words.entry_fits radius below) entries_follow entries.now }
 {
     let mut left = entries;
     while let [entry, after @ ..] = left {
@@ -40,7 +41,7 @@ fn entries_ascend(radius: u8, below: usize, entries: &[Refuted]) -> bool
 }
 
 fn image_fits(below: usize, image: Image) -> bool
-    ensures { result ≡ fits_image below image }
+    ensures { result ≡ words.image_fits below image }
 {
     match image {
         Image::One(a) => usize::from(a) < below,
@@ -49,7 +50,7 @@ fn image_fits(below: usize, image: Image) -> bool
 }
 
 fn all_fit(below: usize, images: &[Image]) -> bool
-    ensures { result ≡ all_of (fits_image below) images.now }
+    ensures { result ≡ all_of (words.image_fits below) images.now }
 {
     for image in images {
         if !image_fits(below, *image) {
@@ -61,7 +62,7 @@ fn all_fit(below: usize, images: &[Image]) -> bool
 
 /// The allowed pairs of an axis.
 pub fn allowed(raw: &RawStep, axis: Axis) -> &[(u16, u16)]
-    ensures { result.now ≡ allowed_pairs raw.now axis }
+    ensures { result.now ≡ words.allowed raw.now axis }
 {
     match axis {
         Axis::One => raw.allowed1.as_slice(),
@@ -79,7 +80,7 @@ pub fn count_tiles(raw: &RawStep) -> u16
 }
 
 fn markers_fit(raw: &RawStep) -> bool
-    ensures { result ≡ markers_right raw.now }
+    ensures { result ≡ faults.markers_fit raw.now }
 {
     let tiles = raw.fine.tiles.as_slice().len();
     let markers = raw.markers.as_slice();
@@ -87,13 +88,13 @@ fn markers_fit(raw: &RawStep) -> bool
 }
 
 fn allowed_fit(raw: &RawStep, axis: Axis) -> bool
-    ensures { result ≡ allowed_right raw.now axis }
+    ensures { result ≡ faults.allowed_fit raw.now axis }
 {
     pairs_ascend(raw.fine.tiles.as_slice().len(), allowed(raw, axis))
 }
 
 fn refuted_fit(raw: &RawStep) -> bool
-    ensures { result ≡ refuted_right raw.now }
+    ensures { result ≡ faults.refuted_fit raw.now }
 {
     entries_ascend(
         raw.radius,
@@ -103,7 +104,7 @@ fn refuted_fit(raw: &RawStep) -> bool
 }
 
 fn images_fit(raw: &RawStep) -> bool
-    ensures { result ≡ images_right raw.now }
+    ensures { result ≡ faults.images_fit raw.now }
 {
     let images = raw.images.as_slice();
     images.len() == raw.coarse.tiles.as_slice().len()
@@ -113,7 +114,7 @@ fn images_fit(raw: &RawStep) -> bool
 /// The first fault of the lists.
 #[tactic(auto, unfolding(crate::specs::Faults::shape_fault))]
 pub fn shape_fault(raw: &RawStep) -> Option<StepFault>
-    ensures { result ≡ first_fault raw.now }
+    ensures { result ≡ faults.shape_fault raw.now }
 {
     if raw.radius > 4 {
         return Some(StepFault::Radius);

@@ -2,8 +2,8 @@
 ghost use Rattle.std.specs.Prelude.{◌≡◌, ◌<◌, ◌≤◌, None, Some, length};
 ghost use Rattle.wt_grid.specs.First.{first_from};
 ghost use Rattle.wt_grid.specs.Order.{first_in};
-ghost use Rattle.wt_step.specs.Words.{image_at as image_of};
-ghost use Rattle.wt_step.specs.Faults.{IsShaped, step_fault as first_fault, rules_fault as first_rule, shape_fault as first_shape, marker_fault_at as marker_at, marker_fault as first_marker, image_fault_at as image_fault_of, image_fault as first_image, missing_tile_at as missing_tile_of, missing_tile as first_missing_tile, missing_pair_at as missing_pair_of, missing_pair as first_missing_pair, join_fault_at as join_at, join_row as first_of_join_row, join_fault as first_join};
+ghost use Rattle.wt_step.specs.Faults.{IsShaped};
+ghost use Rattle.wt_step.specs.Faults as faults;
 
 use crate::rules::{
     agree, has_image, image_at, images_match, is_block, is_demanded, is_good_image, is_marked_well,
@@ -23,7 +23,7 @@ fn count_coarse(raw: &RawStep) -> u16
 }
 
 fn marker_fault_at(raw: &RawStep, axis: Axis, pair: (u16, u16)) -> Option<StepFault>
-    ensures { result ≡ marker_at raw.now axis pair }
+    ensures { result ≡ faults.marker_fault_at raw.now axis pair }
 {
     if is_marked_well(raw, axis, pair.0, pair.1) {
         None
@@ -37,7 +37,7 @@ fn marker_fault_at(raw: &RawStep, axis: Axis, pair: (u16, u16)) -> Option<StepFa
 }
 
 fn marker_fault_in(raw: &RawStep, axis: Axis, pairs: &[(u16, u16)]) -> Option<StepFault>
-    ensures { result ≡ first_in (marker_at raw.now axis) pairs.now }
+    ensures { result ≡ first_in (faults.marker_fault_at raw.now axis) pairs.now }
 {
     for pair in pairs {
         if let Some(fault) = marker_fault_at(raw, axis, *pair) {
@@ -48,7 +48,7 @@ fn marker_fault_in(raw: &RawStep, axis: Axis, pairs: &[(u16, u16)]) -> Option<St
 }
 
 fn marker_fault(raw: &RawStep, axis: Axis) -> Option<StepFault>
-    ensures { result ≡ first_marker raw.now axis }
+    ensures { result ≡ faults.marker_fault raw.now axis }
 {
     marker_fault_in(raw, axis, allowed(raw, axis))
 }
@@ -56,7 +56,7 @@ fn marker_fault(raw: &RawStep, axis: Axis) -> Option<StepFault>
 fn image_fault_at(raw: &RawStep, i: usize) -> Option<StepFault>
     requires shaped { IsShaped raw.now }
     requires inside { i < length raw.now.images }
-    ensures { result ≡ image_fault_of raw.now i }
+    ensures { result ≡ faults.image_fault_at raw.now i }
 {
     let image = image_at(raw, i);
     if is_good_image(raw, image) && !has_image(image, &raw.images.as_slice()[..i]) {
@@ -69,7 +69,7 @@ fn image_fault_at(raw: &RawStep, i: usize) -> Option<StepFault>
 #[tactic(auto, using(wt_grid::proofs::First::first_more))]
 fn image_fault(raw: &RawStep) -> Option<StepFault>
     requires { IsShaped raw.now }
-    ensures { result ≡ first_image raw.now }
+    ensures { result ≡ faults.image_fault raw.now }
 {
     for i in 0..raw.images.as_slice().len() {
         if let Some(fault) = image_fault_at(raw, i) {
@@ -80,7 +80,7 @@ fn image_fault(raw: &RawStep) -> Option<StepFault>
 }
 
 fn missing_tile_at(raw: &RawStep, u: u16) -> Option<StepFault>
-    ensures { result ≡ missing_tile_of raw.now u }
+    ensures { result ≡ faults.missing_tile_at raw.now u }
 {
     if !is_demanded(raw, u) || has_image(Image::One(u), raw.images.as_slice()) {
         None
@@ -92,7 +92,7 @@ fn missing_tile_at(raw: &RawStep, u: u16) -> Option<StepFault>
 #[tactic(auto, using(wt_grid::proofs::First::first_more))]
 fn missing_tile(raw: &RawStep) -> Option<StepFault>
     requires { IsShaped raw.now }
-    ensures { result ≡ first_missing_tile raw.now }
+    ensures { result ≡ faults.missing_tile raw.now }
 {
     for u in 0..count_tiles(raw) {
         if let Some(fault) = missing_tile_at(raw, u) {
@@ -103,7 +103,7 @@ fn missing_tile(raw: &RawStep) -> Option<StepFault>
 }
 
 fn missing_pair_at(raw: &RawStep, pair: (u16, u16)) -> Option<StepFault>
-    ensures { result ≡ missing_pair_of raw.now pair }
+    ensures { result ≡ faults.missing_pair_at raw.now pair }
 {
     if !is_block(raw, pair.0, pair.1)
         || has_image(Image::Two(pair.0, pair.1), raw.images.as_slice())
@@ -118,7 +118,7 @@ fn missing_pair_at(raw: &RawStep, pair: (u16, u16)) -> Option<StepFault>
 }
 
 fn missing_pair_in(raw: &RawStep, pairs: &[(u16, u16)]) -> Option<StepFault>
-    ensures { result ≡ first_in (missing_pair_of raw.now) pairs.now }
+    ensures { result ≡ first_in (faults.missing_pair_at raw.now) pairs.now }
 {
     for pair in pairs {
         if let Some(fault) = missing_pair_at(raw, *pair) {
@@ -129,13 +129,13 @@ fn missing_pair_in(raw: &RawStep, pairs: &[(u16, u16)]) -> Option<StepFault>
 }
 
 fn missing_pair(raw: &RawStep) -> Option<StepFault>
-    ensures { result ≡ first_missing_pair raw.now }
+    ensures { result ≡ faults.missing_pair raw.now }
 {
     missing_pair_in(raw, allowed(raw, raw.axis))
 }
 
 fn join_fault_at(raw: &RawStep, axis: Axis, i: u16, j: u16) -> Option<StepFault>
-    ensures { result ≡ join_at raw.now axis i j }
+    ensures { result ≡ faults.join_fault_at raw.now axis i j }
 {
     let joined = is_match(raw.coarse.tiles.as_slice(), axis, i, j);
     let wanted = images_match(
@@ -154,7 +154,7 @@ fn join_fault_at(raw: &RawStep, axis: Axis, i: u16, j: u16) -> Option<StepFault>
 #[tactic(auto, using(wt_grid::proofs::First::first_more))]
 fn join_row(raw: &RawStep, axis: Axis, i: u16) -> Option<StepFault>
     requires { IsShaped raw.now }
-    ensures { result ≡ first_of_join_row raw.now axis i }
+    ensures { result ≡ faults.join_row raw.now axis i }
 {
     for j in 0..count_coarse(raw) {
         if let Some(fault) = join_fault_at(raw, axis, i, j) {
@@ -168,7 +168,7 @@ fn join_row(raw: &RawStep, axis: Axis, i: u16) -> Option<StepFault>
 #[tactic(auto, using(wt_grid::proofs::First::first_more))]
 fn join_fault(raw: &RawStep, axis: Axis) -> Option<StepFault>
     requires { IsShaped raw.now }
-    ensures { result ≡ first_join raw.now axis }
+    ensures { result ≡ faults.join_fault raw.now axis }
 {
     for i in 0..count_coarse(raw) {
         if let Some(fault) = join_row(raw, axis, i) {
@@ -181,7 +181,7 @@ fn join_fault(raw: &RawStep, axis: Axis) -> Option<StepFault>
 #[tactic(auto, unfolding(crate::specs::Faults::rules_fault))]
 fn rules_fault(raw: &RawStep) -> Option<StepFault>
     requires { IsShaped raw.now }
-    ensures { result ≡ first_rule raw.now }
+    ensures { result ≡ faults.rules_fault raw.now }
 {
     if let Some(fault) = pairs_fault(raw, Axis::One) {
         return Some(fault);
@@ -214,7 +214,7 @@ fn rules_fault(raw: &RawStep) -> Option<StepFault>
 /// place; none exactly where it is good (`good_steps`). Takes no memory.
 #[tactic(auto, unfolding(crate::specs::Faults::step_fault))]
 pub fn step_fault(raw: &RawStep) -> Option<StepFault>
-    ensures { result ≡ first_fault raw.now }
+    ensures { result ≡ faults.step_fault raw.now }
 {
     match shape_fault(raw) {
         Some(fault) => Some(fault),

@@ -2,9 +2,10 @@
 // step are walked beside them: a list is read where it stands, and never searched.
 ghost use Rattle.std.specs.Prelude.{◌≡◌, ◌+◌, ◌-◌, ◌^◌, ◌<◌, ◌≤◌, None, Some, MatchResult, length, true, is_some, option_map};
 ghost use Rattle.std.specs.Bool.{OnTrue};
-ghost use Rattle.wt_refute.specs.Entries.{is_entry as entry_is};
-ghost use Rattle.wt_step.specs.Words.{allowed as allowed_pairs, allows as allows_pair, is_barred as barred, entry_at as entry_of, times as times_named};
-ghost use Rattle.wt_step.specs.Faults.{IsShaped, is_named_well as named_well, tree_fault_at as tree_at, trees_fault as first_tree, pair_fault as fault_of_pair, row_fault as first_of_row, pairs_fault as first_pair};
+ghost use Rattle.wt_refute.specs.Entries as refute_entries;
+ghost use Rattle.wt_step.specs.Words as words;
+ghost use Rattle.wt_step.specs.Faults.{IsShaped};
+ghost use Rattle.wt_step.specs.Faults as faults;
 ghost use Rattle.wt_step.specs.Walk.{IsPlaced, allowed_place, refuted_place};
 
 use crate::order::is_pair;
@@ -57,7 +58,7 @@ fn first_places(raw: &RawStep, axis: Axis) -> Places
 fn is_allowed_at(raw: &RawStep, axis: Axis, a: u16, b: u16, place: usize) -> bool
     requires shaped { IsShaped raw.now }
     requires placed { place ≡ allowed_place raw.now axis a b }
-    ensures value { result ≡ allows_pair raw.now axis a b }
+    ensures value { result ≡ words.allows raw.now axis a b }
     ensures below { OnTrue result (place < 2 ^ 64 - 1) }
 {
     let pairs = allowed(raw, axis);
@@ -66,7 +67,7 @@ fn is_allowed_at(raw: &RawStep, axis: Axis, a: u16, b: u16, place: usize) -> boo
 
 /// Whether the entry is of this radius, this axis and these two tiles.
 fn is_entry(radius: u8, axis: Axis, a: u16, b: u16, entry: &Refuted) -> bool
-    ensures { result ≡ entry_is radius axis a b entry.now }
+    ensures { result ≡ refute_entries.is_entry radius axis a b entry.now }
 {
     entry.radius == radius && (same_axis(entry.axis, axis) && is_pair(a, b, (entry.a, entry.b)))
 }
@@ -75,7 +76,7 @@ fn is_entry(radius: u8, axis: Axis, a: u16, b: u16, entry: &Refuted) -> bool
 fn is_refuted_at(raw: &RawStep, axis: Axis, a: u16, b: u16, radius: u8, place: usize) -> bool
     requires shaped { IsShaped raw.now }
     requires placed { place ≡ refuted_place raw.now axis a b radius }
-    ensures value { result ≡ is_some (entry_of raw.now axis a b radius) }
+    ensures value { result ≡ is_some (words.entry_at raw.now axis a b radius) }
     ensures below { OnTrue result (place < 2 ^ 64 - 1) }
 {
     let entries = raw.refuted.as_slice();
@@ -86,7 +87,7 @@ fn is_refuted_at(raw: &RawStep, axis: Axis, a: u16, b: u16, radius: u8, place: u
 fn entry_at(raw: &RawStep, axis: Axis, a: u16, b: u16, radius: u8, place: usize) -> Option<&Refuted>
     requires shaped { IsShaped raw.now }
     requires placed { place ≡ refuted_place raw.now axis a b radius }
-    ensures { option_map (λ entry. entry.now) result ≡ entry_of raw.now axis a b radius }
+    ensures { option_map (λ entry. entry.now) result ≡ words.entry_at raw.now axis a b radius }
 {
     if is_refuted_at(raw, axis, a, b, radius, place) {
         Some(&raw.refuted.as_slice()[place])
@@ -142,7 +143,7 @@ fn next_places(raw: &RawStep, axis: Axis, a: u16, b: u16, places: &Places) -> Pl
 fn is_barred_here(raw: &RawStep, axis: Axis, a: u16, b: u16, places: &Places) -> bool
     requires shaped { IsShaped raw.now }
     requires placed { IsPlaced raw.now axis a b places.now }
-    ensures { result ≡ barred raw.now axis a b }
+    ensures { result ≡ words.is_barred raw.now axis a b }
 {
     is_match(raw.fine.tiles.as_slice(), axis, a, b)
         && !is_allowed_at(raw, axis, a, b, places.allowed)
@@ -153,7 +154,7 @@ fn is_barred_here(raw: &RawStep, axis: Axis, a: u16, b: u16, places: &Places) ->
 fn times(raw: &RawStep, axis: Axis, a: u16, b: u16, places: &Places) -> usize
     requires shaped { IsShaped raw.now }
     requires placed { IsPlaced raw.now axis a b places.now }
-    ensures { result ≡ times_named raw.now axis a b }
+    ensures { result ≡ words.times raw.now axis a b }
 {
     let mut count = 0usize;
     for radius in 0..raw.radius + 1 {
@@ -167,7 +168,7 @@ fn times(raw: &RawStep, axis: Axis, a: u16, b: u16, places: &Places) -> usize
 fn is_named_well(raw: &RawStep, axis: Axis, a: u16, b: u16, places: &Places) -> bool
     requires shaped { IsShaped raw.now }
     requires placed { IsPlaced raw.now axis a b places.now }
-    ensures { result ≡ named_well raw.now axis a b }
+    ensures { result ≡ faults.is_named_well raw.now axis a b }
 {
     let named = times(raw, axis, a, b, places);
     if is_barred_here(raw, axis, a, b, places) {
@@ -191,7 +192,7 @@ fn tree_fault_at(
     requires shaped { IsShaped raw.now }
     requires placed { IsPlaced raw.now axis a b places.now }
     requires small { radius ≤ raw.now.radius }
-    ensures { result ≡ tree_at raw.now axis a b radius }
+    ensures { result ≡ faults.tree_fault_at raw.now axis a b radius }
 {
     match entry_at(raw, axis, a, b, radius, places.refuted[usize::from(radius)]) {
         None => None,
@@ -214,7 +215,7 @@ fn tree_fault_at(
 fn trees_fault(raw: &RawStep, axis: Axis, a: u16, b: u16, places: &Places) -> Option<StepFault>
     requires shaped { IsShaped raw.now }
     requires placed { IsPlaced raw.now axis a b places.now }
-    ensures { result ≡ first_tree raw.now axis a b }
+    ensures { result ≡ faults.trees_fault raw.now axis a b }
 {
     for radius in 0..raw.radius + 1 {
         if let Some(fault) = tree_fault_at(raw, axis, a, b, radius, places) {
@@ -227,7 +228,7 @@ fn trees_fault(raw: &RawStep, axis: Axis, a: u16, b: u16, places: &Places) -> Op
 fn pair_fault(raw: &RawStep, axis: Axis, a: u16, b: u16, places: &Places) -> Option<StepFault>
     requires shaped { IsShaped raw.now }
     requires placed { IsPlaced raw.now axis a b places.now }
-    ensures { result ≡ fault_of_pair raw.now axis a b }
+    ensures { result ≡ faults.pair_fault raw.now axis a b }
 {
     if !is_named_well(raw, axis, a, b, places) {
         return Some(StepFault::Pair { axis, a, b });
@@ -245,8 +246,8 @@ fn row_fault(raw: &RawStep, axis: Axis, a: u16, at_row: Places) -> Result<Places
     requires shaped { IsShaped raw.now }
     requires placed { IsPlaced raw.now axis a 0 at_row }
     ensures { MatchResult result
-        (λ next. (first_of_row raw.now axis a ≡ None) × IsPlaced raw.now axis (a + 1) 0 next)
-        (λ fault. first_of_row raw.now axis a ≡ Some fault) }
+        (λ next. (faults.row_fault raw.now axis a ≡ None) × IsPlaced raw.now axis (a + 1) 0 next)
+        (λ fault. faults.row_fault raw.now axis a ≡ Some fault) }
 {
     let mut places = at_row;
     for b in 0..count_tiles(raw) {
@@ -262,7 +263,7 @@ fn row_fault(raw: &RawStep, axis: Axis, a: u16, at_row: Places) -> Result<Places
 #[tactic(auto, using(wt_grid::proofs::First::first_more))]
 pub fn pairs_fault(raw: &RawStep, axis: Axis) -> Option<StepFault>
     requires { IsShaped raw.now }
-    ensures { result ≡ first_pair raw.now axis }
+    ensures { result ≡ faults.pairs_fault raw.now axis }
 {
     let mut places = first_places(raw, axis);
     for a in 0..count_tiles(raw) {

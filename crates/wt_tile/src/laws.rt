@@ -3,12 +3,13 @@ ghost use Rattle.std.specs.Prelude.{◌≡◌, ℕ, List, None, Some, slice_get,
 ghost use Rattle.wt_tile.specs.declared.tile.TileList.{TileList};
 ghost use Rattle.wt_tile.specs.declared.fusion.Edge.{Edge};
 ghost use Rattle.wt_tile.specs.Colours.{IsNumbering};
-ghost use Rattle.wt_tile.specs.Sets.{set_fault as first_fault, IsTileSet};
+ghost use Rattle.wt_tile.specs.Sets.{IsTileSet};
+ghost use Rattle.wt_tile.specs.Sets as spec;
 
 /// A list has no fault exactly where it is a tile set.
 pub fn tile_sets()
-    ensures sound { (l : TileList) → first_fault l ≡ None → IsTileSet l }
-    ensures complete { (l : TileList) → IsTileSet l → first_fault l ≡ None }
+    ensures sound { (l : TileList) → spec.set_fault l ≡ None → IsTileSet l }
+    ensures complete { (l : TileList) → IsTileSet l → spec.set_fault l ≡ None }
 {}
 
 /// Numbers of edges are equal exactly where the edges are.

@@ -1,12 +1,13 @@
 // Whether tiles match along an axis, for any numbers.
 ghost use Rattle.std.specs.Prelude.{◌≡◌};
-ghost use Rattle.wt_tile.specs.Matching.{tile_at as tile_of, matches, same_axis as axes_agree, ahead as colour_ahead, behind as colour_behind};
+ghost use Rattle.wt_tile.specs.Matching.{matches};
+ghost use Rattle.wt_tile.specs.Matching as spec;
 
 use crate::{Axis, Tile};
 
 /// The tile with this number; a number past the list counts as a blank tile.
 pub fn tile_at(tiles: &[Tile], a: u16) -> Tile
-    ensures { result ≡ tile_of tiles.now a }
+    ensures { result ≡ spec.tile_at tiles.now a }
 {
     let a = usize::from(a);
     if a < tiles.len() {
@@ -23,7 +24,7 @@ pub fn tile_at(tiles: &[Tile], a: u16) -> Tile
 
 /// The colour of the edge that a tile shows the next tile along the axis: east or north.
 pub fn ahead(axis: Axis, tile: Tile) -> u16
-    ensures { result ≡ colour_ahead axis tile }
+    ensures { result ≡ spec.ahead axis tile }
 {
     match axis {
         Axis::One => tile.east,
@@ -33,7 +34,7 @@ pub fn ahead(axis: Axis, tile: Tile) -> u16
 
 /// The colour of the edge that a tile shows the tile before it along the axis: west or south.
 pub fn behind(axis: Axis, tile: Tile) -> u16
-    ensures { result ≡ colour_behind axis tile }
+    ensures { result ≡ spec.behind axis tile }
 {
     match axis {
         Axis::One => tile.west,
@@ -51,7 +52,7 @@ pub fn is_match(tiles: &[Tile], axis: Axis, a: u16, b: u16) -> bool
 
 /// Whether the axes are the same.
 pub fn same_axis(a: Axis, b: Axis) -> bool
-    ensures { result ≡ axes_agree a b }
+    ensures { result ≡ spec.same_axis a b }
 {
     match (a, b) {
         (Axis::One, Axis::One) => true,

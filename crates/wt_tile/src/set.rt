@@ -1,7 +1,7 @@
 // Tile sets: lists of tiles that have no fault.
 ghost use Rattle.std.specs.Prelude.{◌≡◌, ◌<◌, ◌≤◌, length, None, Some, IfOk, MatchResult};
-ghost use Rattle.wt_tile.specs.Sets.{set_fault as first_fault};
-ghost use Rattle.wt_tile.specs.Matching.{tile_at as tile_of, matches as are_matching};
+ghost use Rattle.wt_tile.specs.Sets as sets;
+ghost use Rattle.wt_tile.specs.Matching as matching_words;
 
 use crate::checks::{are_apart, colour_fault, count_colours1, count_colours2, repeated};
 use crate::matching::{is_match, tile_at};
@@ -14,7 +14,7 @@ use std::marker::Model;
 pub struct SetRef<'a> {
     /// The list of the set.
     pub list: &'a TileList,
-    pub ghost good: { first_fault list.now ≡ None },
+    pub ghost good: { sets.set_fault list.now ≡ None },
 }
 
 /// A tile set: it owns a list that is one, and is seen by contracts as that list.
@@ -38,7 +38,7 @@ impl Model for TileSet {
 /// The first fault of a list, or None exactly where it is a tile set. Takes no memory.
 #[tactic(auto, unfolding(crate::specs::Sets::set_fault))]
 pub fn set_fault(list: &TileList) -> Option<SetFault>
-    ensures { result ≡ first_fault list.now }
+    ensures { result ≡ sets.set_fault list.now }
 {
     let tiles = list.tiles.as_slice();
     let names1 = list.names1.as_slice();
@@ -67,7 +67,7 @@ pub fn set_fault(list: &TileList) -> Option<SetFault>
 impl<'a> SetRef<'a> {
     /// The list as a tile set, or its first fault. Takes no memory.
     pub fn new(list: &'a TileList) -> Result<SetRef<'a>, SetFault>
-        ensures { MatchResult result (λ set. (set.list.now ≡ list.now) × (first_fault list.now ≡ None)) (λ fault. first_fault list.now ≡ Some fault) }
+        ensures { MatchResult result (λ set. (set.list.now ≡ list.now) × (sets.set_fault list.now ≡ None)) (λ fault. sets.set_fault list.now ≡ Some fault) }
     {
         match set_fault(list) {
             None => Ok(SetRef { list }),
@@ -77,7 +77,7 @@ impl<'a> SetRef<'a> {
 
     /// A list that is known to be a tile set. Takes no memory.
     pub fn of(list: &'a TileList) -> SetRef<'a>
-        requires { first_fault list.now ≡ None }
+        requires { sets.set_fault list.now ≡ None }
         ensures { result.list.now ≡ list.now }
     {
         SetRef { list }
@@ -94,7 +94,7 @@ impl<'a> SetRef<'a> {
     /// The list of the set.
     pub fn list(self) -> &'a TileList
         ensures value { result.now ≡ self.entry.list.now }
-        ensures good { first_fault result.now ≡ None }
+        ensures good { sets.set_fault result.now ≡ None }
     {
         self.list
     }
@@ -122,7 +122,7 @@ impl<'a> SetRef<'a> {
     /// The tile with this number, which is in range.
     pub fn tile(self, i: u16) -> Tile
         requires { i < length self.list.now.tiles }
-        ensures { result ≡ tile_of self.entry.list.now.tiles i }
+        ensures { result ≡ matching_words.tile_at self.entry.list.now.tiles i }
     {
         tile_at(self.list.tiles.as_slice(), i)
     }
@@ -131,7 +131,7 @@ impl<'a> SetRef<'a> {
     pub fn matches(self, axis: Axis, a: u16, b: u16) -> bool
         requires first { a < length self.list.now.tiles }
         requires second { b < length self.list.now.tiles }
-        ensures { result ≡ are_matching self.entry.list.now.tiles axis a b }
+        ensures { result ≡ matching_words.matches self.entry.list.now.tiles axis a b }
     {
         is_match(self.list.tiles.as_slice(), axis, a, b)
     }
@@ -140,7 +140,7 @@ impl<'a> SetRef<'a> {
 impl TileSet {
     /// The set of this list, or the list and its first fault. Takes no memory.
     pub fn new(list: TileList) -> Result<TileSet, (TileList, SetFault)>
-        ensures { MatchResult result (λ set. (set ≡ list) × (first_fault list ≡ None)) (λ e. (e.0 ≡ list) × (first_fault list ≡ Some e.1)) }
+        ensures { MatchResult result (λ set. (set ≡ list) × (sets.set_fault list ≡ None)) (λ e. (e.0 ≡ list) × (sets.set_fault list ≡ Some e.1)) }
     {
         match set_fault(&list) {
             None => Ok(TileSet { list }),
@@ -151,7 +151,7 @@ impl TileSet {
     /// The set, borrowed.
     pub fn view(&self) -> SetRef<'_>
         ensures value { result.list.now ≡ self.now }
-        ensures good { first_fault self.now ≡ None }
+        ensures good { sets.set_fault self.now ≡ None }
     {
         SetRef { list: &self.list }
     }
@@ -159,7 +159,7 @@ impl TileSet {
     /// The list of the set.
     pub fn into_list(self) -> TileList
         ensures value { result ≡ self }
-        ensures good { first_fault result ≡ None }
+        ensures good { sets.set_fault result ≡ None }
     {
         self.list
     }
