@@ -8,6 +8,7 @@ ghost use Rattle.wt_refute.specs.Refutation.{node_count, count_in, no_more};
 ghost use Rattle.wt_refute.specs.View.{refutation, child_view};
 ghost use Rattle.wt_cert.specs.Trees.{limited, cell_in, ending, ending_in, tree_in, branches_in};
 ghost use Rattle.wt_cert.specs.Seen.{ending_view, led_by};
+ghost use Rattle.wt_line.specs.Left.{tokens_left};
 
 use sqlite_items::Items;
 use std::alloc::Global;
@@ -76,7 +77,7 @@ pub fn tree_within(
     nodes: u32,
     rest: Rest<'_>,
 ) -> Result<(Tree, u32, Rest<'_>), LineFault>
-    ensures read { ReadsLine (λ x. (refutation x.0, left x.2.more x.2.line.now)) result (tree_in citing levels nodes (left rest.entry.more rest.entry.line.now)) }
+    ensures read { ReadsLine (λ x. (refutation x.0, tokens_left x.2)) result (tree_in citing levels nodes (tokens_left rest.entry)) }
     ensures nodes { IfOk result (λ x. x.1 ≡ nodes + node_count (refutation x.0)) }
     ensures room { IfOk result (λ x. x.1 ≤ 1048576) }
 {
@@ -121,7 +122,7 @@ fn branches_within(
     rest: Rest<'_>,
 ) -> Result<(Items<Child>, u32, Rest<'_>), LineFault>
     requires { nodes ≤ 1048576 }
-    ensures read { ReadsLine (λ x. (led_by (map child_view x.0) no_more, left x.2.more x.2.line.now)) result (branches_in (tree_in citing levels) count nodes (left rest.entry.more rest.entry.line.now)) }
+    ensures read { ReadsLine (λ x. (led_by (map child_view x.0) no_more, tokens_left x.2)) result (branches_in (tree_in citing levels) count nodes (tokens_left rest.entry)) }
     ensures nodes { IfOk result (λ x. x.1 ≡ nodes + count_in (led_by (map child_view x.0) no_more)) }
     ensures room { IfOk result (λ x. x.1 ≤ 1048576) }
 {

@@ -6,7 +6,8 @@ ghost use Rattle.wt_text.specs.Readers.{one_line, many_parts, left_by, whole_tex
 ghost use Rattle.wt_cert.specs.LineForms.{version_form, steps_form, head_form, end_form};
 ghost use Rattle.wt_cert.specs.Parts.{marker_part, restrict_part, block_part, with_link, next_step, steps_part, end_part, chain_part, cert_part};
 ghost use Rattle.wt_cert.specs.Parts as spec;
-ghost use Rattle.wt_cert.specs.Seen.{at, head_view, end_view, link_at_step};
+ghost use Rattle.wt_cert.specs.Seen.{head_view, end_view, link_at_step};
+ghost use Rattle.wt_line.specs.Left.{lines_left, ReadsPlace};
 
 use crate::heads::{EndLine, Head, end_row, head_row, steps_row, version_row};
 use crate::lists::{
@@ -21,7 +22,7 @@ use wt_tile::{Axis, Side};
 
 #[tactic(auto, unfolding(wt_text::specs::Readers::one_line))]
 fn version_at(place: Place<'_>) -> Result<(Version, Place<'_>), TextFault>
-    ensures { ReadsText (λ x. (x.0, at x.1)) result (one_line version_form (at place.entry)) }
+    ensures { ReadsPlace (one_line version_form) result place.entry }
 {
     let (line, next) = next_line(place)?;
     let version = placed(version_row(line), place.number)?;
@@ -31,7 +32,7 @@ fn version_at(place: Place<'_>) -> Result<(Version, Place<'_>), TextFault>
 #[tactic(auto, unfolding(wt_text::specs::Readers::one_line))]
 fn step_count_at(place: Place<'_>) -> Result<(u32, Place<'_>), TextFault>
     ensures within { IfOk result (λ x. x.0 ≤ 32) }
-    ensures read { ReadsText (λ x. (x.0, at x.1)) result (one_line steps_form (at place.entry)) }
+    ensures read { ReadsPlace (one_line steps_form) result place.entry }
 {
     let (line, next) = next_line(place)?;
     let count = placed(steps_row(line), place.number)?;
@@ -40,7 +41,7 @@ fn step_count_at(place: Place<'_>) -> Result<(u32, Place<'_>), TextFault>
 
 #[tactic(auto, unfolding(wt_text::specs::Readers::one_line))]
 fn head_at(version: Version, k: u32, place: Place<'_>) -> Result<(Head, Place<'_>), TextFault>
-    ensures { ReadsText (λ x. (head_view x.0, at x.1)) result (one_line (head_form version k) (at place.entry)) }
+    ensures { ReadsText (λ x. (head_view x.0, lines_left x.1)) result (one_line (head_form version k) (lines_left place.entry)) }
 {
     let (line, next) = next_line(place)?;
     let head = placed(head_row(version, k, line), place.number)?;
@@ -49,7 +50,7 @@ fn head_at(version: Version, k: u32, place: Place<'_>) -> Result<(Head, Place<'_
 
 #[tactic(auto, unfolding(wt_text::specs::Readers::one_line))]
 fn end_line_at(place: Place<'_>) -> Result<(EndLine, Place<'_>), TextFault>
-    ensures { ReadsText (λ x. (end_view x.0, at x.1)) result (one_line end_form (at place.entry)) }
+    ensures { ReadsText (λ x. (end_view x.0, lines_left x.1)) result (one_line end_form (lines_left place.entry)) }
 {
     let (line, next) = next_line(place)?;
     let end = placed(end_row(line), place.number)?;
@@ -66,7 +67,7 @@ fn marker_at<'a>(
     place: Place<'a>,
 ) -> Result<(RawLink, u32, Place<'a>), TextFault>
     requires { nodes ≤ 1048576 }
-    ensures read { ReadsText (λ x. (x.0, at x.2)) result (marker_part version nodes (head.0, (head.1, head.2)) (at place.entry)) }
+    ensures read { ReadsText (λ x. (x.0, lines_left x.2)) result (marker_part version nodes (head.0, (head.1, head.2)) (lines_left place.entry)) }
     ensures nodes { IfOk result (λ x. x.1 ≡ with_link nodes x.0) }
     ensures room { IfOk result (λ x. x.1 ≤ 1048576) }
 {
@@ -102,7 +103,7 @@ fn restrict_at<'a>(
     place: Place<'a>,
 ) -> Result<(RawLink, u32, Place<'a>), TextFault>
     requires { nodes ≤ 1048576 }
-    ensures read { ReadsText (λ x. (x.0, at x.2)) result (restrict_part nodes radius (at place.entry)) }
+    ensures read { ReadsText (λ x. (x.0, lines_left x.2)) result (restrict_part nodes radius (lines_left place.entry)) }
     ensures nodes { IfOk result (λ x. x.1 ≡ with_link nodes x.0) }
     ensures room { IfOk result (λ x. x.1 ≤ 1048576) }
 {
@@ -130,7 +131,7 @@ fn link_at<'a>(
     place: Place<'a>,
 ) -> Result<(RawLink, u32, Place<'a>), TextFault>
     requires { nodes ≤ 1048576 }
-    ensures read { ReadsText (λ x. (x.0, at x.2)) result (spec.link_part version k nodes (at place.entry)) }
+    ensures read { ReadsText (λ x. (x.0, lines_left x.2)) result (spec.link_part version k nodes (lines_left place.entry)) }
     ensures nodes { IfOk result (λ x. x.1 ≡ with_link nodes x.0) }
     ensures room { IfOk result (λ x. x.1 ≤ 1048576) }
 {
@@ -149,7 +150,7 @@ fn links_at<'a>(
     count: u32,
     place: Place<'a>,
 ) -> Result<(Vec<RawLink>, Place<'a>), TextFault>
-    ensures { ReadsText (λ x. (x.0.items, at x.1)) result (many_parts (link_at_step version) next_step (0, 0) count (at place.entry)) }
+    ensures { ReadsText (λ x. (x.0.items, lines_left x.1)) result (many_parts (link_at_step version) next_step (0, 0) count (lines_left place.entry)) }
 {
     let mut links = Vec::new(alloc);
     let mut nodes = 0u32;
@@ -170,7 +171,7 @@ fn steps_at<'a>(
     version: Version,
     place: Place<'a>,
 ) -> Result<(Seq<RawLink>, Place<'a>), TextFault>
-    ensures { ReadsText (λ x. (x.0, at x.1)) result (steps_part version (at place.entry)) }
+    ensures { ReadsPlace (steps_part version) result place.entry }
 {
     let (count, place) = step_count_at(place)?;
     let (links, place) = links_at(alloc, version, count, place)?;
@@ -180,7 +181,7 @@ fn steps_at<'a>(
 /// `open`, or `loop START E` and the renaming.
 #[tactic(auto, unfolding(crate::specs::Parts::end_part, wt_text::specs::Readers::part_behind, wt_text::specs::Readers::seen_as))]
 fn end_at(alloc: Global, place: Place<'_>) -> Result<(End, Place<'_>), TextFault>
-    ensures { ReadsText (λ x. (x.0, at x.1)) result (end_part (at place.entry)) }
+    ensures { ReadsPlace end_part result place.entry }
 {
     let (end, place) = end_line_at(place)?;
     match end {
@@ -204,7 +205,7 @@ fn chain_at<'a>(
     version: Version,
     place: Place<'a>,
 ) -> Result<(RawChain, Place<'a>), TextFault>
-    ensures { ReadsText (λ x. (x.0, at x.1)) result (chain_part version (at place.entry)) }
+    ensures { ReadsPlace (chain_part version) result place.entry }
 {
     let (steps, place) = steps_at(alloc, version, place)?;
     let (end, place) = end_at(alloc, place)?;
@@ -220,7 +221,7 @@ fn chain_at<'a>(
 /// The chain of a certificate, and the place behind its last line.
 #[tactic(auto, unfolding(crate::specs::Parts::cert_part, wt_text::specs::Readers::part_behind))]
 pub fn read_chain(alloc: Global, place: Place<'_>) -> Result<(RawChain, Place<'_>), TextFault>
-    ensures { ReadsText (λ x. (x.0, at x.1)) result (cert_part (at place.entry)) }
+    ensures { ReadsPlace cert_part result place.entry }
 {
     let (version, place) = version_at(place)?;
     chain_at(alloc, version, place)

@@ -1,7 +1,8 @@
 // The form of a tree in a line.
 ghost use Rattle.std.specs.Prelude.{◌≡◌, ◌<◌, ◌+◌, ◌-◌, ◌^◌, length, MatchOption, IfSome, ℕ, suc, false};
-ghost use Rattle.wt_line.specs.Given.{left, room};
+ghost use Rattle.wt_line.specs.Given.{left};
 ghost use Rattle.wt_cert.specs.Trees.{is_tree, is_forest, held_owed, ending};
+ghost use Rattle.wt_line.specs.Left.{tokens_left, room_left};
 
 use wt_line::{Rest, is_decimal, next_token, number};
 
@@ -19,9 +20,9 @@ fn owed_by(citing: bool, token: &[u8]) -> Option<u64>
 
 /// One child with its node: what the node owes, and what is left.
 fn next_child(citing: bool, rest: Rest<'_>) -> Option<(u64, Rest<'_>)>
-    ensures form { MatchOption result ((n : ℕ) → is_forest citing (suc n) (left rest.entry.more rest.entry.line.now) ≡ false) (λ x. (n : ℕ) → is_forest citing (suc n) (left rest.entry.more rest.entry.line.now) ≡ is_forest citing (n + x.0) (left x.1.more x.1.line.now)) }
-    ensures fewer { IfSome result (λ x. room x.1.more x.1.line.now < room rest.entry.more rest.entry.line.now) }
-    ensures few { IfSome result (λ x. length (left x.1.more x.1.line.now) < 2 ^ 64 - 1) }
+    ensures form { MatchOption result ((n : ℕ) → is_forest citing (suc n) (tokens_left rest.entry) ≡ false) (λ x. (n : ℕ) → is_forest citing (suc n) (tokens_left rest.entry) ≡ is_forest citing (n + x.0) (tokens_left x.1)) }
+    ensures fewer { IfSome result (λ x. room_left x.1 < room_left rest.entry) }
+    ensures few { IfSome result (λ x. length (tokens_left x.1) < 2 ^ 64 - 1) }
 {
     let (tile, rest) = next_token(rest)?;
     let (cell, rest) = next_token(rest)?;
@@ -34,7 +35,7 @@ fn next_child(citing: bool, rest: Rest<'_>) -> Option<(u64, Rest<'_>)>
 }
 
 fn first_node(citing: bool, rest: Rest<'_>) -> Option<(u64, Rest<'_>)>
-    ensures { MatchOption result (is_tree citing (left rest.entry.more rest.entry.line.now) ≡ false) (λ x. is_tree citing (left rest.entry.more rest.entry.line.now) ≡ is_forest citing x.0 (left x.1.more x.1.line.now)) }
+    ensures { MatchOption result (is_tree citing (tokens_left rest.entry) ≡ false) (λ x. is_tree citing (tokens_left rest.entry) ≡ is_forest citing x.0 (tokens_left x.1)) }
 {
     let (cell, rest) = next_token(rest)?;
     let (count, rest) = next_token(rest)?;
@@ -47,7 +48,7 @@ fn first_node(citing: bool, rest: Rest<'_>) -> Option<(u64, Rest<'_>)>
 
 /// Whether the tokens to the end of a line are those of a tree.
 pub fn tree_form(citing: bool, rest: Rest<'_>) -> bool
-    ensures { result ≡ is_tree citing (left rest.entry.more rest.entry.line.now) }
+    ensures { result ≡ is_tree citing (tokens_left rest.entry) }
 {
     let Some((owed, after)) = first_node(citing, rest) else {
         return false;

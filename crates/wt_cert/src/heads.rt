@@ -1,13 +1,13 @@
 // The lines of a certificate that say what follows them.
 ghost use Rattle.std.specs.Prelude.{◌≡◌, ◌≤◌, IfOk};
 ghost use Rattle.std.specs.Fmt.{decimal};
-ghost use Rattle.wt_line.specs.Given.{left};
 ghost use Rattle.wt_line.specs.Faults.{ReadsTokens, ReadsLine};
 ghost use Rattle.wt_text.specs.Words.{tokens};
 ghost use Rattle.wt_text.specs.Readers.{mapped, seen_value, first, second};
 ghost use Rattle.wt_cert.specs.LineForms.{alone_form, count_form, version_form, steps_form, head_form, allowed_form, end_form};
 ghost use Rattle.wt_cert.specs.LineForms as spec;
 ghost use Rattle.wt_cert.specs.Seen.{head_view, end_view};
+ghost use Rattle.wt_line.specs.Left.{tokens_left, ReadsRest};
 
 use crate::words::{axis, radius, side, small, this_number};
 use wt_chain::Version;
@@ -88,7 +88,7 @@ pub fn version_row(line: &[u8]) -> Result<Version, LineFault>
 /// A number of steps, at least one.
 fn step_count(rest: Rest<'_>) -> Result<(Result<u32, What>, Rest<'_>), LineFault>
     ensures within { IfOk result (λ x. IfOk x.0 (λ n. n ≤ 32)) }
-    ensures read { ReadsTokens (λ x. (x.0, left x.1.more x.1.line.now)) result (spec.step_count (left rest.entry.more rest.entry.line.now)) }
+    ensures read { ReadsRest spec.step_count result rest.entry }
 {
     let Some((token, rest)) = next_token(rest) else {
         return Err(LineFault::Wrong);
@@ -121,7 +121,7 @@ pub fn steps_row(line: &[u8]) -> Result<u32, LineFault>
 /// `A side W radius R`, behind the word `axis`.
 #[tactic(auto, unfolding(wt_text::specs::Readers::both, wt_text::specs::Readers::behind))]
 fn marker_head(rest: Rest<'_>) -> Result<(Result<Head, What>, Rest<'_>), LineFault>
-    ensures { ReadsTokens (λ x. (mapped head_view x.0, left x.1.more x.1.line.now)) result (seen_value first (spec.marker_head (left rest.entry.more rest.entry.line.now))) }
+    ensures { ReadsTokens (λ x. (mapped head_view x.0, tokens_left x.1)) result (seen_value first (spec.marker_head (tokens_left rest.entry))) }
 {
     let (axis, rest) = axis(rest)?;
     let rest = word("side", rest)?;
@@ -137,7 +137,7 @@ fn marker_head(rest: Rest<'_>) -> Result<(Result<Head, What>, Rest<'_>), LineFau
 /// `radius R`, behind the word `restrict`.
 #[tactic(auto, unfolding(wt_text::specs::Readers::behind))]
 fn restrict_head(rest: Rest<'_>) -> Result<(Result<Head, What>, Rest<'_>), LineFault>
-    ensures { ReadsTokens (λ x. (mapped head_view x.0, left x.1.more x.1.line.now)) result (seen_value second (spec.restrict_head (left rest.entry.more rest.entry.line.now))) }
+    ensures { ReadsTokens (λ x. (mapped head_view x.0, tokens_left x.1)) result (seen_value second (spec.restrict_head (tokens_left rest.entry))) }
 {
     let rest = word("radius", rest)?;
     let (radius, rest) = radius(rest)?;
@@ -152,7 +152,7 @@ fn kind_of_step(
     version: Version,
     rest: Rest<'_>,
 ) -> Result<(Result<Head, What>, Rest<'_>), LineFault>
-    ensures { ReadsTokens (λ x. (mapped head_view x.0, left x.1.more x.1.line.now)) result (spec.kind_of_step version (left rest.entry.more rest.entry.line.now)) }
+    ensures { ReadsTokens (λ x. (mapped head_view x.0, tokens_left x.1)) result (spec.kind_of_step version (tokens_left rest.entry)) }
 {
     let Some((token, rest)) = next_token(rest) else {
         return Err(LineFault::Wrong);

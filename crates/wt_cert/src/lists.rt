@@ -6,7 +6,7 @@ ghost use Rattle.wt_pattern.specs.TileRows.{no_state};
 ghost use Rattle.wt_cert.specs.LineForms.{alone_form, count_form, allowed_form, pair_form, image_form};
 ghost use Rattle.wt_cert.specs.Parts.{tiles_part, numbers_part, allowed_part, with_refuted, refuted_part, with_lost, lost_part, images_part};
 ghost use Rattle.wt_cert.specs.Parts as spec;
-ghost use Rattle.wt_cert.specs.Seen.{at};
+ghost use Rattle.wt_line.specs.Left.{lines_left, ReadsPlace};
 
 use crate::heads::{allowed_row, alone_row, count_row};
 use crate::numbers::numbers_row;
@@ -28,7 +28,7 @@ const MAX_REFUTED: u32 = 131_072;
 /// A line of one word.
 #[tactic(auto, unfolding(wt_text::specs::Readers::one_line))]
 pub fn alone_at<'a>(name: &str, place: Place<'a>) -> Result<Place<'a>, TextFault>
-    ensures { ReadsText (λ p. (tt, at p)) result (one_line (alone_form name.now) (at place.entry)) }
+    ensures { ReadsText (λ p. (tt, lines_left p)) result (one_line (alone_form name.now) (lines_left place.entry)) }
 {
     let (line, next) = next_line(place)?;
     placed(alone_row(name, line), place.number)?;
@@ -43,7 +43,7 @@ fn count_at<'a>(
     place: Place<'a>,
 ) -> Result<(u32, Place<'a>), TextFault>
     ensures within { IfOk result (λ x. x.0 ≤ most) }
-    ensures read { ReadsText (λ x. (x.0, at x.1)) result (one_line (count_form name.now most what) (at place.entry)) }
+    ensures read { ReadsPlace (one_line (count_form name.now most what)) result place.entry }
 {
     let (line, next) = next_line(place)?;
     let count = placed(count_row(name, most, what, line), place.number)?;
@@ -52,7 +52,7 @@ fn count_at<'a>(
 
 #[tactic(auto, unfolding(wt_text::specs::Readers::one_line))]
 fn allowed_count<'a>(axis: &str, place: Place<'a>) -> Result<(u32, Place<'a>), TextFault>
-    ensures { ReadsText (λ x. (x.0, at x.1)) result (one_line (allowed_form axis.now) (at place.entry)) }
+    ensures { ReadsPlace (one_line (allowed_form axis.now)) result place.entry }
 {
     let (line, next) = next_line(place)?;
     let count = placed(allowed_row(axis, line), place.number)?;
@@ -61,7 +61,7 @@ fn allowed_count<'a>(axis: &str, place: Place<'a>) -> Result<(u32, Place<'a>), T
 
 #[tactic(auto, unfolding(wt_text::specs::Readers::one_line))]
 fn pair_at(place: Place<'_>) -> Result<((u16, u16), Place<'_>), TextFault>
-    ensures { ReadsText (λ x. (x.0, at x.1)) result (one_line pair_form (at place.entry)) }
+    ensures { ReadsPlace (one_line pair_form) result place.entry }
 {
     let (line, next) = next_line(place)?;
     let pair = placed(pair_row(line), place.number)?;
@@ -70,7 +70,7 @@ fn pair_at(place: Place<'_>) -> Result<((u16, u16), Place<'_>), TextFault>
 
 #[tactic(auto, unfolding(wt_text::specs::Readers::one_line))]
 fn image_at(place: Place<'_>) -> Result<(Image, Place<'_>), TextFault>
-    ensures { ReadsText (λ x. (x.0, at x.1)) result (one_line image_form (at place.entry)) }
+    ensures { ReadsPlace (one_line image_form) result place.entry }
 {
     let (line, next) = next_line(place)?;
     let image = placed(image_row(line), place.number)?;
@@ -85,7 +85,7 @@ fn refuted_at<'a>(
     nodes: u32,
     place: Place<'a>,
 ) -> Result<(Refuted, u32, Place<'a>), TextFault>
-    ensures read { ReadsText (λ x. (x.0, at x.2)) result (spec.refuted_row version radius nodes (at place.entry)) }
+    ensures read { ReadsText (λ x. (x.0, lines_left x.2)) result (spec.refuted_row version radius nodes (lines_left place.entry)) }
     ensures nodes { IfOk result (λ x. x.1 ≡ with_refuted nodes x.0) }
     ensures room { IfOk result (λ x. x.1 ≤ 1048576) }
 {
@@ -103,7 +103,7 @@ fn lost_at<'a>(
     nodes: u32,
     place: Place<'a>,
 ) -> Result<(Lost, u32, Place<'a>), TextFault>
-    ensures read { ReadsText (λ x. (x.0, at x.2)) result (spec.lost_row nodes (at place.entry)) }
+    ensures read { ReadsText (λ x. (x.0, lines_left x.2)) result (spec.lost_row nodes (lines_left place.entry)) }
     ensures nodes { IfOk result (λ x. x.1 ≡ with_lost nodes x.0) }
     ensures room { IfOk result (λ x. x.1 ≤ 1048576) }
 {
@@ -119,7 +119,7 @@ pub fn tile_list_at<'a>(
     name: &str,
     place: Place<'a>,
 ) -> Result<(TileList, Place<'a>), TextFault>
-    ensures { ReadsText (λ x. (x.0, at x.1)) result (tiles_part name.now (at place.entry)) }
+    ensures { ReadsPlace (tiles_part name.now) result place.entry }
 {
     let (count, place) = count_at(name, MAX_TILES, What::Tiles, place)?;
     tiles_at(alloc, count as usize, place)
@@ -132,7 +132,7 @@ pub fn numbers_at<'a>(
     name: &str,
     place: Place<'a>,
 ) -> Result<(Seq<u16>, Place<'a>), TextFault>
-    ensures { ReadsText (λ x. (x.0, at x.1)) result (numbers_part name.now (at place.entry)) }
+    ensures { ReadsPlace (numbers_part name.now) result place.entry }
 {
     let (line, next) = next_line(place)?;
     let numbers = placed(numbers_row(alloc, name, line), place.number)?;
@@ -144,7 +144,7 @@ fn pairs_at(
     count: u32,
     place: Place<'_>,
 ) -> Result<(Vec<(u16, u16)>, Place<'_>), TextFault>
-    ensures { ReadsText (λ x. (x.0.items, at x.1)) result (many_parts (λ s. one_line pair_form) no_state 0 count (at place.entry)) }
+    ensures { ReadsText (λ x. (x.0.items, lines_left x.1)) result (many_parts (λ s. one_line pair_form) no_state 0 count (lines_left place.entry)) }
 {
     let mut pairs = Vec::new(alloc);
     let mut place = place;
@@ -163,7 +163,7 @@ pub fn allowed_at<'a>(
     axis: &str,
     place: Place<'a>,
 ) -> Result<(Seq<(u16, u16)>, Place<'a>), TextFault>
-    ensures { ReadsText (λ x. (x.0, at x.1)) result (allowed_part axis.now (at place.entry)) }
+    ensures { ReadsPlace (allowed_part axis.now) result place.entry }
 {
     let (count, place) = allowed_count(axis, place)?;
     let (pairs, place) = pairs_at(alloc, count, place)?;
@@ -175,7 +175,7 @@ fn image_list(
     count: u32,
     place: Place<'_>,
 ) -> Result<(Vec<Image>, Place<'_>), TextFault>
-    ensures { ReadsText (λ x. (x.0.items, at x.1)) result (many_parts (λ s. one_line image_form) no_state 0 count (at place.entry)) }
+    ensures { ReadsText (λ x. (x.0.items, lines_left x.1)) result (many_parts (λ s. one_line image_form) no_state 0 count (lines_left place.entry)) }
 {
     let mut images = Vec::new(alloc);
     let mut place = place;
@@ -190,7 +190,7 @@ fn image_list(
 /// `images c`, and c images.
 #[tactic(auto, unfolding(crate::specs::Parts::images_part, wt_text::specs::Readers::counted_parts))]
 pub fn images_at(alloc: Global, place: Place<'_>) -> Result<(Seq<Image>, Place<'_>), TextFault>
-    ensures { ReadsText (λ x. (x.0, at x.1)) result (images_part (at place.entry)) }
+    ensures { ReadsPlace images_part result place.entry }
 {
     let (count, place) = count_at("images", MAX_TILES, What::Tiles, place)?;
     let (images, place) = image_list(alloc, count, place)?;
@@ -206,7 +206,7 @@ fn refuted_rows<'a>(
     place: Place<'a>,
 ) -> Result<(Vec<Refuted>, u32, Place<'a>), TextFault>
     requires { nodes ≤ 1048576 }
-    ensures read { ReadsText (λ x. (x.0.items, at x.2)) result (many_parts (spec.refuted_row version radius) with_refuted nodes count (at place.entry)) }
+    ensures read { ReadsText (λ x. (x.0.items, lines_left x.2)) result (many_parts (spec.refuted_row version radius) with_refuted nodes count (lines_left place.entry)) }
     ensures nodes { IfOk result (λ x. x.1 ≡ left_by with_refuted nodes x.0.items) }
     ensures room { IfOk result (λ x. x.1 ≤ 1048576) }
 {
@@ -232,7 +232,7 @@ pub fn refuted_list<'a>(
     place: Place<'a>,
 ) -> Result<(Seq<Refuted>, u32, Place<'a>), TextFault>
     requires { nodes ≤ 1048576 }
-    ensures read { ReadsText (λ x. (x.0, at x.2)) result (refuted_part version radius nodes (at place.entry)) }
+    ensures read { ReadsText (λ x. (x.0, lines_left x.2)) result (refuted_part version radius nodes (lines_left place.entry)) }
     ensures nodes { IfOk result (λ x. x.1 ≡ left_by with_refuted nodes x.0) }
     ensures room { IfOk result (λ x. x.1 ≤ 1048576) }
 {
@@ -248,7 +248,7 @@ fn lost_rows<'a>(
     place: Place<'a>,
 ) -> Result<(Vec<Lost>, u32, Place<'a>), TextFault>
     requires { nodes ≤ 1048576 }
-    ensures read { ReadsText (λ x. (x.0.items, at x.2)) result (many_parts spec.lost_row with_lost nodes count (at place.entry)) }
+    ensures read { ReadsText (λ x. (x.0.items, lines_left x.2)) result (many_parts spec.lost_row with_lost nodes count (lines_left place.entry)) }
     ensures nodes { IfOk result (λ x. x.1 ≡ left_by with_lost nodes x.0.items) }
     ensures room { IfOk result (λ x. x.1 ≤ 1048576) }
 {
@@ -272,7 +272,7 @@ pub fn lost_list<'a>(
     place: Place<'a>,
 ) -> Result<(Seq<Lost>, u32, Place<'a>), TextFault>
     requires { nodes ≤ 1048576 }
-    ensures read { ReadsText (λ x. (x.0, at x.2)) result (lost_part nodes (at place.entry)) }
+    ensures read { ReadsText (λ x. (x.0, lines_left x.2)) result (lost_part nodes (lines_left place.entry)) }
     ensures nodes { IfOk result (λ x. x.1 ≡ left_by with_lost nodes x.0) }
     ensures room { IfOk result (λ x. x.1 ≤ 1048576) }
 {

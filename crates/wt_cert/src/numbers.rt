@@ -2,13 +2,13 @@
 ghost use Rattle.std.specs.Prelude.{◌≡◌, ◌≤◌, ◌+◌, ◌<◌, [], IfOk, OnErr, IsErrOf, length};
 ghost use Rattle.wt_line.specs.declared.faults.What.TheVariants.{Tiles, Number};
 ghost use Rattle.wt_line.specs.declared.faults.LineFault.TheVariants.{OutOfMemory};
-ghost use Rattle.wt_line.specs.Given.{left};
 ghost use Rattle.wt_line.specs.Faults.{ReadsTokens, ReadsLine};
 ghost use Rattle.wt_text.specs.Words.{tokens};
 ghost use Rattle.wt_text.specs.Readers.{mapped, numbers_to};
 ghost use Rattle.wt_text.specs.Readers as spec;
 ghost use Rattle.wt_cert.specs.LineForms.{numbers_form};
 ghost use Rattle.wt_cert.specs.Seen.{with_number};
+ghost use Rattle.wt_line.specs.Left.{tokens_left};
 
 use crate::words::small;
 use std::alloc::Global;
@@ -38,8 +38,8 @@ fn and_number(
 
 /// The numbers to the end of a line, and how many they are.
 fn numbers_to_end(alloc: Global, rest: Rest<'_>) -> Result<(Result<Vec<u16>, What>, u64), LineFault>
-    ensures read { ReadsTokens (λ x. mapped (λ v. v.items) x.0) result (numbers_to 65535 Number (left rest.entry.more rest.entry.line.now)) }
-    ensures count { IfOk result (λ x. x.1 ≡ length (left rest.entry.more rest.entry.line.now)) }
+    ensures read { ReadsTokens (λ x. mapped (λ v. v.items) x.0) result (numbers_to 65535 Number (tokens_left rest.entry)) }
+    ensures count { IfOk result (λ x. x.1 ≡ length (tokens_left rest.entry)) }
 {
     let mut numbers = Ok(Vec::new(alloc));
     let mut count = 0u64;
@@ -55,7 +55,7 @@ fn numbers_to_end(alloc: Global, rest: Rest<'_>) -> Result<(Result<Vec<u16>, Wha
 
 /// A count, and so many numbers to the end of the line.
 fn counted_numbers(alloc: Global, rest: Rest<'_>) -> Result<Result<Vec<u16>, What>, LineFault>
-    ensures { ReadsTokens (λ x. (mapped (λ v. v.items) x, [])) result (spec.counted_numbers 256 Tiles 65535 Number (left rest.entry.more rest.entry.line.now)) }
+    ensures { ReadsTokens (λ x. (mapped (λ v. v.items) x, [])) result (spec.counted_numbers 256 Tiles 65535 Number (tokens_left rest.entry)) }
 {
     let Some((token, rest)) = next_token(rest) else {
         return Err(LineFault::Wrong);

@@ -1,6 +1,5 @@
 // The lines of a block's lists.
 ghost use Rattle.std.specs.Prelude.{◌≡◌, ◌≤◌, ◌+◌, IfOk};
-ghost use Rattle.wt_line.specs.Given.{left};
 ghost use Rattle.wt_line.specs.Faults.{ReadsTokens, ReadsLine};
 ghost use Rattle.wt_refute.specs.Refutation.{node_count};
 ghost use Rattle.wt_refute.specs.View.{refutation};
@@ -11,6 +10,7 @@ ghost use Rattle.wt_cert.specs.LineForms as line_forms;
 ghost use Rattle.wt_cert.specs.Parts.{with_refuted, with_lost};
 ghost use Rattle.wt_cert.specs.Seen.{refuted_view, lost_view};
 ghost use Rattle.wt_cert.specs.Trees as trees;
+ghost use Rattle.wt_line.specs.Left.{tokens_left, ReadsRest};
 
 use crate::build::tree_within;
 use crate::forms::tree_form;
@@ -72,7 +72,7 @@ fn radius_in(
     given: u8,
     rest: Rest<'_>,
 ) -> Result<(Result<u8, What>, Rest<'_>), LineFault>
-    ensures { ReadsTokens (λ x. (x.0, left x.1.more x.1.line.now)) result (line_forms.radius_in version given (left rest.entry.more rest.entry.line.now)) }
+    ensures { ReadsRest (line_forms.radius_in version given) result rest.entry }
 {
     match version {
         Version::One => Ok((Ok(given), rest)),
@@ -88,7 +88,7 @@ fn tree_to_end(
     nodes: u32,
     rest: Rest<'_>,
 ) -> Result<(Result<Grown, What>, Rest<'_>), LineFault>
-    ensures read { ReadsTokens (λ x. (mapped (λ g. refutation g.tree) x.0, left x.1.more x.1.line.now)) result (trees.tree_to_end citing nodes (left rest.entry.more rest.entry.line.now)) }
+    ensures read { ReadsTokens (λ x. (mapped (λ g. refutation g.tree) x.0, tokens_left x.1)) result (trees.tree_to_end citing nodes (tokens_left rest.entry)) }
     ensures nodes { IfOk result (λ x. IfOk x.0 (λ g. g.nodes ≡ nodes + node_count (refutation g.tree))) }
     ensures room { IfOk result (λ x. IfOk x.0 (λ g. g.nodes ≤ 1048576)) }
 {

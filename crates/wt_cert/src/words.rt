@@ -1,10 +1,10 @@
 // Words and small numbers in a line.
 ghost use Rattle.std.specs.Prelude.{◌≡◌, ◌<◌, ◌≤◌, ◌^◌, ◌-◌, IfOk, Ok};
 ghost use Rattle.std.specs.Fmt.{decimal};
-ghost use Rattle.wt_line.specs.Given.{left, room};
 ghost use Rattle.wt_line.specs.Faults.{ReadsTokens};
 ghost use Rattle.wt_text.specs.Readers.{after};
 ghost use Rattle.wt_cert.specs.LineForms as spec;
+ghost use Rattle.wt_line.specs.Left.{tokens_left, room_left, ReadsRest};
 
 use wt_line::{LineFault, Rest, What, next_token, number, number_to};
 use wt_tile::{Axis, Side};
@@ -15,8 +15,8 @@ const MAX_RADIUS: u32 = 4;
 
 /// A number that has no limit of its own.
 pub fn small(rest: Rest<'_>) -> Result<(Result<u16, What>, Rest<'_>), LineFault>
-    ensures fewer { IfOk result (λ x. room x.1.more x.1.line.now < room rest.entry.more rest.entry.line.now) }
-    ensures read { ReadsTokens (λ x. (x.0, left x.1.more x.1.line.now)) result (spec.small (left rest.entry.more rest.entry.line.now)) }
+    ensures fewer { IfOk result (λ x. room_left x.1 < room_left rest.entry) }
+    ensures read { ReadsRest spec.small result rest.entry }
 {
     let (value, rest) = number_to(MOST, What::Number, rest)?;
     match value {
@@ -26,7 +26,7 @@ pub fn small(rest: Rest<'_>) -> Result<(Result<u16, What>, Rest<'_>), LineFault>
 }
 
 pub fn radius(rest: Rest<'_>) -> Result<(Result<u8, What>, Rest<'_>), LineFault>
-    ensures { ReadsTokens (λ x. (x.0, left x.1.more x.1.line.now)) result (spec.radius (left rest.entry.more rest.entry.line.now)) }
+    ensures { ReadsRest spec.radius result rest.entry }
 {
     let (value, rest) = number_to(MAX_RADIUS, What::Radius, rest)?;
     match value {
@@ -37,7 +37,7 @@ pub fn radius(rest: Rest<'_>) -> Result<(Result<u8, What>, Rest<'_>), LineFault>
 
 /// An axis, `1` or `2`.
 pub fn axis(rest: Rest<'_>) -> Result<(Axis, Rest<'_>), LineFault>
-    ensures { ReadsTokens (λ x. (Ok x.0, left x.1.more x.1.line.now)) result (spec.axis (left rest.entry.more rest.entry.line.now)) }
+    ensures { ReadsTokens (λ x. (Ok x.0, tokens_left x.1)) result (spec.axis (tokens_left rest.entry)) }
 {
     let Some((token, rest)) = next_token(rest) else {
         return Err(LineFault::Wrong);
@@ -53,7 +53,7 @@ pub fn axis(rest: Rest<'_>) -> Result<(Axis, Rest<'_>), LineFault>
 
 /// A side, `after` or `before`.
 pub fn side(rest: Rest<'_>) -> Result<(Side, Rest<'_>), LineFault>
-    ensures { ReadsTokens (λ x. (Ok x.0, left x.1.more x.1.line.now)) result (spec.side (left rest.entry.more rest.entry.line.now)) }
+    ensures { ReadsTokens (λ x. (Ok x.0, tokens_left x.1)) result (spec.side (tokens_left rest.entry)) }
 {
     let Some((token, rest)) = next_token(rest) else {
         return Err(LineFault::Wrong);
@@ -70,7 +70,7 @@ pub fn side(rest: Rest<'_>) -> Result<(Side, Rest<'_>), LineFault>
 /// What stands behind this number.
 #[tactic(auto, using(crate::proofs::Literals::same_number, crate::proofs::Literals::other_number))]
 pub fn this_number(n: u32, rest: Rest<'_>) -> Result<Rest<'_>, LineFault>
-    ensures { ReadsTokens (λ r. left r.more r.line.now) result (after (decimal n) (left rest.entry.more rest.entry.line.now)) }
+    ensures { ReadsTokens tokens_left result (after (decimal n) (tokens_left rest.entry)) }
 {
     let Some((token, rest)) = next_token(rest) else {
         return Err(LineFault::Wrong);

@@ -6,3 +6,4 @@ pub mod Faults
 pub mod Chains
 pub mod Good
 pub mod Turns
+pub mod Looped

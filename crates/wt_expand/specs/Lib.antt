@@ -10,3 +10,4 @@ pub mod Turn
 pub mod Expansion
 pub mod Ready
 pub mod Wholes
+pub mod Spaces

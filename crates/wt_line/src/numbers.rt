@@ -2,8 +2,8 @@
 ghost use Rattle.std.specs.Prelude.{◌≡◌, ◌≤◌, ◌<◌, IfOk};
 ghost use Rattle.wt_text.specs.Words as words;
 ghost use Rattle.wt_text.specs.Readers as readers;
-ghost use Rattle.wt_line.specs.Given.{left, held, room};
-ghost use Rattle.wt_line.specs.Faults.{ReadsTokens};
+ghost use Rattle.wt_line.specs.Given.{left, held};
+ghost use Rattle.wt_line.specs.Left.{room_left, ReadsRest};
 
 use crate::faults::{LineFault, What};
 use crate::tokens::{Rest, next_token};
@@ -30,8 +30,8 @@ pub fn number_to(
     rest: Rest<'_>,
 ) -> Result<(Result<u32, What>, Rest<'_>), LineFault>
     ensures within { IfOk result (λ x. IfOk x.0 (λ n. n ≤ most)) }
-    ensures fewer { IfOk result (λ x. room x.1.more x.1.line.now < room rest.entry.more rest.entry.line.now) }
-    ensures read { ReadsTokens (λ x. (x.0, left x.1.more x.1.line.now)) result (readers.number_to most what (left rest.entry.more rest.entry.line.now)) }
+    ensures fewer { IfOk result (λ x. room_left x.1 < room_left rest.entry) }
+    ensures read { ReadsRest (readers.number_to most what) result rest.entry }
 {
     let Some((token, rest)) = next_token(rest) else {
         return Err(LineFault::Wrong);

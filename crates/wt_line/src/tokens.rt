@@ -2,8 +2,9 @@
 ghost use Rattle.std.specs.Prelude.{◌≡◌, ◌∷◌, [], MatchOption, MatchResult, IfSome, ◌≤◌, ◌<◌, length};
 ghost use Rattle.wt_text.specs.Words.{tokens};
 ghost use Rattle.wt_text.specs.Readers.{after};
-ghost use Rattle.wt_line.specs.Given.{left, room};
+ghost use Rattle.wt_line.specs.Given.{left};
 ghost use Rattle.wt_line.specs.Faults.{ReadsTokens, IsWrong};
+ghost use Rattle.wt_line.specs.Left.{tokens_left, room_left};
 
 use crate::faults::LineFault;
 use wt_io::cut;
@@ -20,7 +21,7 @@ pub struct Rest<'a> {
 impl<'a> Rest<'a> {
     /// All tokens of a line.
     pub fn new(line: &'a [u8]) -> Rest<'a>
-        ensures { left result.more result.line.now ≡ tokens line.now }
+        ensures { tokens_left result ≡ tokens line.now }
     {
         Rest { line, more: true }
     }
@@ -29,8 +30,8 @@ impl<'a> Rest<'a> {
 // The first token of a line, and what is left behind it.
 #[tactic(auto, using(wt_io::proofs::Cuts::first_of_tokens, wt_io::proofs::Cuts::one_token))]
 fn first_part(line: &[u8]) -> (&[u8], Rest<'_>)
-    ensures first { tokens line.now ≡ result.0.now ∷ left result.1.more result.1.line.now }
-    ensures fewer { room result.1.more result.1.line.now ≤ length line.now }
+    ensures first { tokens line.now ≡ result.0.now ∷ tokens_left result.1 }
+    ensures fewer { room_left result.1 ≤ length line.now }
 {
     match cut(line, b' ') {
         Some((token, line)) => (token, Rest { line, more: true }),
@@ -46,8 +47,8 @@ fn first_part(line: &[u8]) -> (&[u8], Rest<'_>)
 
 /// The next token, and the tokens behind it; None exactly where none is left.
 pub fn next_token(rest: Rest<'_>) -> Option<(&[u8], Rest<'_>)>
-    ensures first { MatchOption result (left rest.entry.more rest.entry.line.now ≡ []) (λ x. left rest.entry.more rest.entry.line.now ≡ x.0.now ∷ left x.1.more x.1.line.now) }
-    ensures fewer { IfSome result (λ x. room x.1.more x.1.line.now < room rest.entry.more rest.entry.line.now) }
+    ensures first { MatchOption result (tokens_left rest.entry ≡ []) (λ x. tokens_left rest.entry ≡ x.0.now ∷ tokens_left x.1) }
+    ensures fewer { IfSome result (λ x. room_left x.1 < room_left rest.entry) }
 {
     if rest.more {
         Some(first_part(rest.line))
@@ -58,7 +59,7 @@ pub fn next_token(rest: Rest<'_>) -> Option<(&[u8], Rest<'_>)>
 
 /// The tokens behind a word. `Wrong` comes exactly where the next token is not this word.
 pub fn word<'a>(word: &str, rest: Rest<'a>) -> Result<Rest<'a>, LineFault>
-    ensures { ReadsTokens (λ r. left r.more r.line.now) result (after word.now (left rest.entry.more rest.entry.line.now)) }
+    ensures { ReadsTokens tokens_left result (after word.now (tokens_left rest.entry)) }
 {
     let Some((token, rest)) = next_token(rest) else {
         return Err(LineFault::Wrong);
@@ -72,7 +73,7 @@ pub fn word<'a>(word: &str, rest: Rest<'a>) -> Result<Rest<'a>, LineFault>
 
 /// Nothing is left of a line. `Wrong` comes exactly where a token is.
 pub fn line_end(rest: Rest<'_>) -> Result<(), LineFault>
-    ensures { MatchResult result (λ _. left rest.entry.more rest.entry.line.now ≡ []) (λ e. IsWrong e (left rest.entry.more rest.entry.line.now)) }
+    ensures { MatchResult result (λ _. tokens_left rest.entry ≡ []) (λ e. IsWrong e (tokens_left rest.entry)) }
 {
     if rest.more {
         Err(LineFault::Wrong)

@@ -1,7 +1,6 @@
 // Rows of four colour names, and the tiles that they stand for.
 ghost use Rattle.std.specs.Prelude.{◌≡◌, ◌+◌, ◌<◌, ◌≤◌, MatchOption, OnOk, IfOk, Ok, true, false, length, vec_len};
 ghost use Rattle.wt_text.specs.Words.{tokens};
-ghost use Rattle.wt_text.specs.Lines.{lines};
 ghost use Rattle.wt_line.specs.declared.faults.What.{What};
 ghost use Rattle.wt_line.specs.Given.{left};
 ghost use Rattle.wt_line.specs.Faults.{ReadsTokens, ReadsLine, ReadsText};
@@ -9,6 +8,7 @@ ghost use Rattle.wt_names.specs.Numbering.{is_among, place, seen_after};
 ghost use Rattle.wt_names.specs.Rows.{name_word, row_form, is_name, RowFits};
 ghost use Rattle.wt_pattern.specs.TileRows.{row_part, tile_rows};
 ghost use Rattle.wt_pattern.specs.Numbered.{four_names, row_words, row_named, next_tile};
+ghost use Rattle.wt_line.specs.Left.{tokens_left, lines_left, ReadsPlace};
 
 use std::alloc::{AllocError, Global};
 use wt_line::{LineFault, Place, Rest, TextFault, line_end, next_line, next_token, placed};
@@ -26,7 +26,7 @@ struct Row<'a> {
 
 #[tactic(auto, using(crate::proofs::Names::named, crate::proofs::Names::not_named))]
 fn name_at(rest: Rest<'_>) -> Result<(&[u8], Rest<'_>), LineFault>
-    ensures read { ReadsTokens (λ x. (Ok x.0.now, left x.1.more x.1.line.now)) result (name_word {W = What} (left rest.entry.more rest.entry.line.now)) }
+    ensures read { ReadsTokens (λ x. (Ok x.0.now, tokens_left x.1)) result (name_word {W = What} (tokens_left rest.entry)) }
     ensures name { IfOk result (λ x. is_name x.0.now ≡ true) }
 {
     let Some((token, rest)) = next_token(rest) else {
@@ -40,7 +40,7 @@ fn name_at(rest: Rest<'_>) -> Result<(&[u8], Rest<'_>), LineFault>
 
 #[tactic(auto, unfolding(wt_text::specs::Readers::both))]
 fn names_at(rest: Rest<'_>) -> Result<(Row<'_>, Rest<'_>), LineFault>
-    ensures read { ReadsTokens (λ x. (Ok (row_words x.0), left x.1.more x.1.line.now)) result (four_names {W = What} (left rest.entry.more rest.entry.line.now)) }
+    ensures read { ReadsTokens (λ x. (Ok (row_words x.0), tokens_left x.1)) result (four_names {W = What} (tokens_left rest.entry)) }
     ensures names { IfOk result (λ x. RowFits (row_words x.0)) }
 {
     let (right, rest) = name_at(rest)?;
@@ -68,7 +68,7 @@ fn row_names(line: &[u8]) -> Result<Row<'_>, LineFault>
 
 #[tactic(auto, unfolding(wt_text::specs::Readers::one_line, wt_text::specs::Readers::seen_as))]
 fn row_at(place: Place<'_>) -> Result<(Row<'_>, Place<'_>), TextFault>
-    ensures read { ReadsText (λ x. (row_named x.0, (x.1.number, lines x.1.bytes.now))) result (row_part (place.entry.number, lines place.entry.bytes.now)) }
+    ensures read { ReadsText (λ x. (row_named x.0, lines_left x.1)) result (row_part (lines_left place.entry)) }
     ensures names { IfOk result (λ x. RowFits (row_words x.0)) }
 {
     let (line, next) = next_line(place)?;
@@ -139,7 +139,7 @@ pub fn tiles_at(
     place: Place<'_>,
 ) -> Result<(TileList, Place<'_>), TextFault>
     requires { count ≤ 256 }
-    ensures { ReadsText (λ x. (x.0, (x.1.number, lines x.1.bytes.now))) result (tile_rows count (place.entry.number, lines place.entry.bytes.now)) }
+    ensures { ReadsPlace (tile_rows count) result place.entry }
 {
     let mut tiles = Vec::new(alloc);
     let mut names1 = Vec::new(alloc);

@@ -3,10 +3,10 @@ ghost use Rattle.std.specs.Prelude.{◌≡◌, ◌≤◌, ◌<◌, IfOk, Ok, Err
 ghost use Rattle.wt_text.specs.Words.{tokens};
 ghost use Rattle.wt_text.specs.Lines.{lines};
 ghost use Rattle.wt_text.specs.Readers.{whole_text, one_line};
-ghost use Rattle.wt_line.specs.Given.{left};
-ghost use Rattle.wt_line.specs.Faults.{ReadsTokens, ReadsLine, ReadsText};
+ghost use Rattle.wt_line.specs.Faults.{ReadsLine, ReadsText};
 ghost use Rattle.wt_pattern.specs.TileRows.{tile_rows};
 ghost use Rattle.wt_pattern.specs.PatternRows.{pattern_rows, pattern_part, side_word, shape_form};
+ghost use Rattle.wt_line.specs.Left.{ReadsRest, ReadsPlace};
 
 use crate::Pattern;
 use crate::cells::{rows_at, stacked};
@@ -39,9 +39,9 @@ fn pattern_rows_at(
     height: usize,
     place: Place<'_>,
 ) -> Result<(Pattern, Place<'_>), TextFault>
-    requires wide { (1 ≤ width) × (width ≤ 4096) }
-    requires high { (1 ≤ height) × (height ≤ 4096) }
-    ensures { ReadsText (λ x. (x.0, (x.1.number, lines x.1.bytes.now))) result (pattern_rows width height (place.entry.number, lines place.entry.bytes.now)) }
+    requires wide { (1 ≤ width) × (width ≤ MAX_SIDE) }
+    requires high { (1 ≤ height) × (height ≤ MAX_SIDE) }
+    ensures { ReadsPlace (pattern_rows width height) result place.entry }
 {
     let (rows, place) = rows_at(alloc, width, height, place)?;
     let cells = stacked(alloc, rows)?;
@@ -51,8 +51,8 @@ fn pattern_rows_at(
 /// A pattern of this width and height, from a text that is its rows and no more.
 #[tactic(auto, unfolding(wt_text::specs::Readers::whole_text))]
 pub fn read_pattern(alloc: Global, bytes: &[u8], w: usize, h: usize) -> Result<Pattern, TextFault>
-    requires wide { (1 ≤ w) × (w ≤ 4096) }
-    requires high { (1 ≤ h) × (h ≤ 4096) }
+    requires wide { (1 ≤ w) × (w ≤ MAX_SIDE) }
+    requires high { (1 ≤ h) × (h ≤ MAX_SIDE) }
     ensures { ReadsText (λ pattern. pattern) result (whole_text (pattern_rows w h) (lines bytes.now)) }
 {
     let (pattern, place) = pattern_rows_at(alloc, w, h, Place::new(bytes))?;
@@ -62,8 +62,8 @@ pub fn read_pattern(alloc: Global, bytes: &[u8], w: usize, h: usize) -> Result<P
 
 /// A width or a height, or what it is where it is over 4096.
 fn side_at(what: What, rest: Rest<'_>) -> Result<(Result<usize, What>, Rest<'_>), LineFault>
-    ensures read { ReadsTokens (λ x. (x.0, left x.1.more x.1.line.now)) result (side_word what (left rest.entry.more rest.entry.line.now)) }
-    ensures small { IfOk result (λ x. IfOk x.0 (λ n. (1 ≤ n) × (n ≤ 4096))) }
+    ensures read { ReadsRest (side_word what) result rest.entry }
+    ensures small { IfOk result (λ x. IfOk x.0 (λ n. (1 ≤ n) × (n ≤ MAX_SIDE))) }
 {
     let Some((token, rest)) = next_token(rest) else {
         return Err(LineFault::Wrong);
@@ -84,8 +84,8 @@ fn side_at(what: What, rest: Rest<'_>) -> Result<(Result<usize, What>, Rest<'_>)
 #[tactic(auto, unfolding(wt_text::specs::Readers::whole, wt_text::specs::Readers::both, wt_text::specs::Readers::behind))]
 fn shape_of(line: &[u8]) -> Result<(usize, usize), LineFault>
     ensures read { ReadsLine (λ x. x) result (shape_form (tokens line.now)) }
-    ensures wide { IfOk result (λ x. (1 ≤ x.0) × (x.0 ≤ 4096)) }
-    ensures high { IfOk result (λ x. (1 ≤ x.1) × (x.1 ≤ 4096)) }
+    ensures wide { IfOk result (λ x. (1 ≤ x.0) × (x.0 ≤ MAX_SIDE)) }
+    ensures high { IfOk result (λ x. (1 ≤ x.1) × (x.1 ≤ MAX_SIDE)) }
 {
     let rest = word("pattern", Rest::new(line))?;
     let (width, rest) = side_at(What::Width, rest)?;
@@ -96,9 +96,9 @@ fn shape_of(line: &[u8]) -> Result<(usize, usize), LineFault>
 
 #[tactic(auto, unfolding(wt_text::specs::Readers::one_line))]
 fn shape_at(place: Place<'_>) -> Result<((usize, usize), Place<'_>), TextFault>
-    ensures read { ReadsText (λ x. (x.0, (x.1.number, lines x.1.bytes.now))) result (one_line shape_form (place.entry.number, lines place.entry.bytes.now)) }
-    ensures wide { IfOk result (λ x. (1 ≤ x.0.0) × (x.0.0 ≤ 4096)) }
-    ensures high { IfOk result (λ x. (1 ≤ x.0.1) × (x.0.1 ≤ 4096)) }
+    ensures read { ReadsPlace (one_line shape_form) result place.entry }
+    ensures wide { IfOk result (λ x. (1 ≤ x.0.0) × (x.0.0 ≤ MAX_SIDE)) }
+    ensures high { IfOk result (λ x. (1 ≤ x.0.1) × (x.0.1 ≤ MAX_SIDE)) }
 {
     let (line, next) = next_line(place)?;
     let shape = placed(shape_of(line), place.number)?;
@@ -108,7 +108,7 @@ fn shape_at(place: Place<'_>) -> Result<((usize, usize), Place<'_>), TextFault>
 /// A pattern with its head: the line `pattern`, its width and its height, and then its rows, the top one first. The place behind it comes with it.
 #[tactic(auto, unfolding(wt_text::specs::Readers::seen_as, wt_text::specs::Readers::part_by))]
 pub fn pattern_at(alloc: Global, place: Place<'_>) -> Result<(Pattern, Place<'_>), TextFault>
-    ensures { ReadsText (λ x. (x.0, (x.1.number, lines x.1.bytes.now))) result (pattern_part (place.entry.number, lines place.entry.bytes.now)) }
+    ensures { ReadsPlace pattern_part result place.entry }
 {
     let ((width, height), place) = shape_at(place)?;
     pattern_rows_at(alloc, width, height, place)

@@ -3,3 +3,4 @@ pub mod Sizes
 pub mod Existence
 pub mod Pick
 pub mod Vectors
+pub mod Loops

@@ -15,17 +15,17 @@ ghost use Rattle.wt_step.specs.declared.raw.RawLink.{RawLink};
 ghost use Rattle.wt_step.specs.Links.{link_fault, fine_of, coarse_of};
 ghost use Rattle.wt_pattern.specs.Periods.{IsPeriod};
 ghost use Rattle.wt_chain.specs.declared.raw.RawChain.{RawChain};
-ghost use Rattle.wt_chain.specs.declared.raw.End.TheVariants.{Loop};
 ghost use Rattle.wt_chain.specs.Faults.{chain_fault};
+ghost use Rattle.wt_chain.specs.Looped.{IsLooped, first_tiles};
 ghost use Rattle.wt_chain.specs.Sets.{AreLinked};
 ghost use Rattle.wt_chain.specs.Turns.{renamed_back, turned_times};
 ghost use Rattle.wt_chain.specs.Good.{GoodLoop};
 ghost use Rattle.wt_step.specs.Carried.{magnitude};
-ghost use Rattle.wt_scale.specs.Sizes.{size_of};
+ghost use Rattle.wt_scale.specs.Loops.{loop_size, loop_pick};
 ghost use Rattle.wt_scale.specs.Vectors.{digits, size_result};
 ghost use Rattle.wt_scale.specs.Scales.{Lowered, side_below};
 ghost use Rattle.wt_scale.specs.Existence.{ValidImage, SameSized, TwiceSized, IsPatternOf, HasPattern};
-ghost use Rattle.wt_scale.specs.Pick.{power_for, pick};
+ghost use Rattle.wt_scale.specs.Pick.{power_for};
 
 /// Each valid coarse pattern of a good marker step has an image, and that is valid: the coarse tiles of a
 /// line stand for one or two lines, which match as the step's images say.
@@ -50,9 +50,9 @@ pub fn patterns_are_lowered()
 /// the loop a component that isn't 0 is at least halved, since every tile grows to two cells at least each
 /// way; after k times e turns it would be at least 2^k, which is more than m.
 pub fn large_patterns_have_no_period()
-    ensures { (c : RawChain) → chain_fault c ≡ None → (start e : ℕ) (list : List ℕ) → c.end ≡ Loop start list e → (first : RawLink) (rest : List RawLink) → c.steps ≡ first ∷ rest
+    ensures { (c : RawChain) → chain_fault c ≡ None → (loop : IsLooped c)
         → (x y : ℤ) (m k : ℕ) → magnitude x ≤ m → magnitude y ≤ m → m < 2 ^ k → (1 ≤ magnitude x) ⊎ (1 ≤ magnitude y)
-        → (p : Grid) → IsPattern (fine_of first).tiles p → size_of c.steps start e k m ≤ p.width → size_of c.steps start e k m ≤ p.height → IsPeriod p x y → ⊥ }
+        → (p : Grid) → IsPattern (first_tiles loop) p → loop_size loop k m ≤ p.width → loop_size loop k m ≤ p.height → IsPeriod p x y → ⊥ }
 {}
 
 /// Each valid coarse pattern of a good step, of either kind, has an image, and that is valid. It is no smaller
@@ -83,14 +83,14 @@ pub fn least_powers()
 /// h cells high: each e turns of the loop at least double the sides of the pattern of tile 0, images under the
 /// steps before the loop are no smaller, and a part of a valid pattern is valid.
 pub fn picks_are_valid()
-    ensures { (c : RawChain) → chain_fault c ≡ None → (start e : ℕ) (list : List ℕ) → c.end ≡ Loop start list e → (first : RawLink) (rest : List RawLink) → c.steps ≡ first ∷ rest
-        → (w h : ℕ) → 1 ≤ w → 1 ≤ h → IsPatternOf (fine_of first).tiles w h (pick c.steps start list e w h) }
+    ensures { (c : RawChain) → chain_fault c ≡ None → (loop : IsLooped c)
+        → (w h : ℕ) → 1 ≤ w → 1 ≤ h → IsPatternOf (first_tiles loop) w h (loop_pick loop w h) }
 {}
 
 /// Valid patterns of every size exist over the first set of a good looped chain: its picks.
 pub fn every_size_has_a_pattern()
-    ensures { (c : RawChain) → chain_fault c ≡ None → (start e : ℕ) (list : List ℕ) → c.end ≡ Loop start list e → (first : RawLink) (rest : List RawLink) → c.steps ≡ first ∷ rest
-        → (w h : ℕ) → 1 ≤ w → 1 ≤ h → HasPattern (fine_of first).tiles w h }
+    ensures { (c : RawChain) → chain_fault c ≡ None → (loop : IsLooped c)
+        → (w h : ℕ) → 1 ≤ w → 1 ≤ h → HasPattern (first_tiles loop) w h }
 {}
 
 /// A number is below 2 to the power of its number of binary digits, and below no lower power of 2.

@@ -8,4 +8,5 @@ pub mod Blocks
 pub mod Coarse
 pub mod Views
 pub mod Meaning
+pub mod Cores
 pub mod Carried

@@ -1,20 +1,18 @@
 // What good steps are, and what they make of valid rectangles.
-ghost use Rattle.std.specs.Prelude.{◌≡◌, ◌+◌, ◌-◌, ◌<◌, ◌≤◌, ◌++◌, None, true, ℕ, List, Bool};
-ghost use Rattle.wt_grid.specs.Grid.{Grid, IsGrid, cell, along, across, lines};
-ghost use Rattle.wt_grid.specs.Lines.{IsImage};
-ghost use Rattle.wt_grid.specs.Cuts.{closed, Fills};
+ghost use Rattle.std.specs.Prelude.{◌≡◌, ◌+◌, ◌-◌, ◌<◌, ◌≤◌, ◌++◌, None, true, ℕ, Bool};
+ghost use Rattle.wt_grid.specs.Grid.{Grid, IsGrid, cell};
 ghost use Rattle.wt_grid.specs.Parts.{core, IsValid};
 ghost use Rattle.wt_grid.specs.Shifts.{HasVector};
 ghost use Rattle.wt_tile.specs.Matching.{grid_axis};
 ghost use Rattle.wt_pattern.specs.Patterns.{IsPattern};
 ghost use Rattle.wt_step.specs.declared.raw.RawStep.{RawStep};
 ghost use Rattle.wt_step.specs.declared.raw.RawRestrict.{RawRestrict};
-ghost use Rattle.wt_step.specs.Words.{is_marker};
 ghost use Rattle.wt_step.specs.Faults as faults;
 ghost use Rattle.wt_step.specs.Restrict.{is_kept};
 ghost use Rattle.wt_step.specs.Restrict as restrict;
 ghost use Rattle.wt_step.specs.Good.{GoodStep, GoodRestrict};
-ghost use Rattle.wt_step.specs.Meaning.{line_side, allowing, pieces, cut_core, IsCoarse, IsKept};
+ghost use Rattle.wt_step.specs.Meaning.{allowing, cut_core, IsCoarse, IsKept};
+ghost use Rattle.wt_step.specs.Cores.{core_lines, core_length, core_width, SharesBlocks};
 ghost use Rattle.wt_step.specs.declared.raw.RawLink.TheVariants.{Marker};
 ghost use Rattle.wt_step.specs.Coarse.{has_margin, cuts_low, cuts_high, core_line, cut_line};
 ghost use Rattle.wt_step.specs.Carried.{IsCarried};
@@ -45,22 +43,19 @@ pub fn cores_are_plain()
 /// lines of the core, each block but the one at the open end is a block of that one, at the same lines.
 pub fn desubstitutes()
     ensures some { (s : RawStep) → faults.step_fault s ≡ None → (p : Grid) → IsPattern s.fine.tiles p
-        → 3 ≤ along (grid_axis s.axis) (core s.radius p) → 1 ≤ across (grid_axis s.axis) (core s.radius p)
+        → 3 ≤ core_length s p → 1 ≤ core_width s p
         → (q : Grid) × IsCoarse s p q × IsPattern s.coarse.tiles q }
-    ensures one { (s : RawStep) → faults.step_fault s ≡ None → (p q r : Grid) → 1 ≤ across (grid_axis s.axis) (core s.radius p)
+    ensures one { (s : RawStep) → faults.step_fault s ≡ None → (p q r : Grid) → 1 ≤ core_width s p
         → IsGrid q → IsGrid r → IsCoarse s p q → IsCoarse s p r → q ≡ r }
-    ensures others { (s : RawStep) → faults.step_fault s ≡ None → (p q r : Grid) → 1 ≤ across (grid_axis s.axis) (core s.radius p) → IsGrid r → IsCoarse s p q
-        → (front run back : List (List ℕ)) → lines (grid_axis s.axis) (core s.radius p) ≡ front ++ (run ++ back) → IsImage (pieces s) (lines (grid_axis s.axis) r) run
-        → (qa : List (List ℕ)) × (qb : List (List ℕ)) × (lines (grid_axis s.axis) q ≡ qa ++ (closed (line_side s.side) (lines (grid_axis s.axis) r) ++ qb))
-        × Fills (line_side s.side) (is_marker s) (pieces s) qa qb front back }
+    ensures others { (s : RawStep) → faults.step_fault s ≡ None → (p q r : Grid) → 1 ≤ core_width s p → IsGrid r → IsCoarse s p q → SharesBlocks s p q r }
 {}
 
 /// The lines of a core are the first line, where it is cut, then the cut core, and then the last line, where
 /// that is cut.
 pub fn cuts_are_the_border_lines()
     ensures { (s : RawStep) (p : Grid) → has_margin (Marker s) p ≡ true
-        → lines (grid_axis s.axis) (core s.radius p) ≡ cut_line (cuts_low (Marker s) p) (core_line s p 0)
-        ++ (cut_core s p ++ cut_line (cuts_high (Marker s) p) (core_line s p (along (grid_axis s.axis) (core s.radius p) - 1))) }
+        → core_lines s p ≡ cut_line (cuts_low (Marker s) p) (core_line s p 0)
+        ++ (cut_core s p ++ cut_line (cuts_high (Marker s) p) (core_line s p (core_length s p - 1))) }
 {}
 
 /// A period of a valid pattern is a period of the coarse pattern that a good marker step makes of it, where
@@ -68,7 +63,7 @@ pub fn cuts_are_the_border_lines()
 /// along the axis is counted in blocks instead of lines.
 pub fn periods_are_carried()
     ensures { (s : RawStep) → faults.step_fault s ≡ None → (p q : Grid) → IsPattern s.fine.tiles p → IsGrid q → IsCoarse s p q
-        → (opposed : Bool) (d e : ℕ) → d + 3 ≤ along (grid_axis s.axis) (core s.radius p) → e < across (grid_axis s.axis) (core s.radius p)
+        → (opposed : Bool) (d e : ℕ) → d + 3 ≤ core_length s p → e < core_width s p
         → HasVector (grid_axis s.axis) opposed d e p → (n : ℕ) × IsCarried s opposed d e n q }
 {}
 

@@ -3,4 +3,4 @@ use Rattle.wt_scale.proofs.EverySize.{every_size}
 use Rattle.wt_scale.proofs.laws.every_size_has_a_pattern.Goals as goal
 
 pub returns : goal.returns
-returns c = λ chain e. every_size chain (good chain e)
+returns c = λ chain e loop. every_size chain (good chain e) loop.start loop.expansion loop.renaming loop.ends loop.first loop.later loop.begins
