@@ -1,16 +1,16 @@
 -- An image of one tile or of two.
 use Rattle.std.proofs.Common.{◌≡◌, ℕ, Bool, true, false, List, [], ◌∷◌, Option, Some, Result, refl}
+use Rattle.wt_grid.specs.declared.image.Image.TheVariants.{One as Single}
+use Rattle.wt_grid.specs.declared.image.Image.{Image}
 use Rattle.wt_line.specs.declared.faults.What.{What}
 use Rattle.wt_line.specs.Given.{left}
-use Rattle.wt_morphism.specs.declared.image.Image.{Image}
-use Rattle.wt_morphism.specs.declared.image.Image.TheVariants.{One}
 use Rattle.wt_text.specs.Words.{tokens}
 use Rattle.wt_text.specs.Spellings.{IsSome}
 use Rattle.wt_text.specs.Readers.{◌>>=◌, pair, mapped}
 use Rattle.wt_text.proofs.Split.{some_tokens}
 use Rattle.wt_cert.specs.LineForms.{small, image_of, image_behind}
 
-pub one_image : (u : Result ℕ What) (more : Bool) (line : List ℕ) → more ≡ false → image_behind u (left more line) ≡ Some (mapped One u, [])
+pub one_image : (u : Result ℕ What) (more : Bool) (line : List ℕ) → more ≡ false → image_behind u (left more line) ≡ Some (mapped Single u, [])
 one_image u true line e = absurd cc
 one_image u false line e = refl
 

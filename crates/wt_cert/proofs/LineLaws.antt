@@ -1,16 +1,16 @@
 -- The lines of a certificate, both ways.
 use Rattle.std.proofs.Common.{rules, arith, ◌≡◌, ◌⊎◌, inl, inr, ℕ, ◌≤◌, ◌<◌, ◌^◌, Bool, true, false, cond, nat_eq, List, [], ◌∷◌, ◌++◌, Option, Some, None, Result, Ok, Err, refl, ap, ◌∙◌, subst, codes}
+use Rattle.wt_grid.specs.declared.image.Image.TheVariants.{One as Single, Two as Double}
+use Rattle.wt_grid.specs.declared.image.Image.{Image}
+use Rattle.wt_grid.specs.declared.axis.Side.TheVariants.{After, Before}
+use Rattle.wt_grid.specs.declared.axis.Side.{Side}
+use Rattle.wt_grid.specs.declared.axis.Axis.TheVariants.{One, Two}
+use Rattle.wt_grid.specs.declared.axis.Axis.{Axis}
 use Rattle.std.specs.Fmt.{decimal}
 use Rattle.std.proofs.lemmas.Bool.{eqb-false}
 use Rattle.std.proofs.lemmas.Bool.Decides.{nat_tests}
 use Rattle.wt_line.specs.declared.faults.What.{What}
 use Rattle.wt_line.specs.declared.faults.What.TheVariants.{Steps, Radius, Tiles, Pairs, Expansion, Number}
-use Rattle.wt_tile.specs.declared.tile.Axis.{Axis}
-use Rattle.wt_tile.specs.declared.tile.Axis.TheVariants as axes
-use Rattle.wt_tile.specs.declared.tile.Side.{Side}
-use Rattle.wt_tile.specs.declared.tile.Side.TheVariants.{After, Before}
-use Rattle.wt_morphism.specs.declared.image.Image.{Image}
-use Rattle.wt_morphism.specs.declared.image.Image.TheVariants as images
 use Rattle.wt_chain.specs.declared.raw.Version.{Version}
 use Rattle.wt_chain.specs.declared.raw.Version.TheVariants as versions
 use Rattle.wt_text.specs.Words.{number}
@@ -26,9 +26,9 @@ use Rattle.wt_cert.specs.Trees.{tree_spelling, TreeFits}
 use Rattle.wt_cert.proofs.TreeLines.{tree_last}
 use Rattle.wt_cert.proofs.Joined.{given_format, first_format, FirstFits, either_format, either_spelling, EitherFits, same_format}
 
-which_axis : (x : Axis) → (x ≡ axes.One) ⊎ (x ≡ axes.Two)
-which_axis axes.One = inl refl
-which_axis axes.Two = inr refl
+which_axis : (x : Axis) → (x ≡ One) ⊎ (x ≡ Two)
+which_axis One = inl refl
+which_axis Two = inr refl
 
 which_side : (x : Side) → (x ≡ After) ⊎ (x ≡ Before)
 which_side After = inl refl
@@ -39,7 +39,7 @@ which_version versions.One = inl refl
 which_version versions.Two = inr refl
 
 axis_format : IsFormat {W = What} axis (λ a. axis_digit a ∷ []) (λ x. Unit {0})
-axis_format = word_format (codes "1") axes.One (codes "2") axes.Two axis_digit refl refl (search rules) (search rules) refl which_axis
+axis_format = word_format (codes "1") One (codes "2") Two axis_digit refl refl (search rules) (search rules) refl which_axis
 
 side_format : IsFormat {W = What} side (λ s. side_word s ∷ []) (λ x. Unit {0})
 side_format = word_format (codes "after") After (codes "before") Before side_word refl refl (search rules) (search rules) refl which_side
@@ -169,7 +169,7 @@ lost_line nodes = whole_last (λ x. tt) (both_last small_format (tree_last true 
 image_last : IsLast image image_tokens ImageFits
 image_last = record { found = found; again = again; clean = clean }
   where
-    one_is : (r : Result ℕ What) (x : Image) → mapped images.One r ≡ Ok x → (u : ℕ) × (r ≡ Ok u) × (images.One u ≡ x)
+    one_is : (r : Result ℕ What) (x : Image) → mapped Single r ≡ Ok x → (u : ℕ) × (r ≡ Ok u) × (Single u ≡ x)
     one_is (Ok u) x e = (u, refl, cc)
     one_is (Err w) x e = absurd cc
 
@@ -179,7 +179,7 @@ image_last = record { found = found; again = again; clean = clean }
 
     behind_first : (ts : List (List ℕ)) (u : Result ℕ What) (us : List (List ℕ)) (x : Image) (rest : List (List ℕ)) → small ts ≡ Some (u, us) → image_behind u us ≡ Some (Ok x, rest) → (ts ≡ image_tokens x ++ rest) × ImageFits x
     behind_first ts u [] x rest s e =
-        let p = read_is (mapped images.One u) (Ok x) [] rest e in
+        let p = read_is (mapped Single u) (Ok x) [] rest e in
         let o = one_is u x p.0 in
         let f = small_format.found ts o.0 [] (s ∙ ap (λ (r : Result ℕ What). Some (r, [])) o.1) in
         let P : Image → Type 0 = λ y. (ts ≡ image_tokens y ++ rest) × ImageFits y in
@@ -198,19 +198,19 @@ image_last = record { found = found; again = again; clean = clean }
     found ts x rest e = let u = bind_some (small ts) _ (Ok x, rest) e in behind_first ts u.0.0 u.0.1 x rest u.1 u.2
 
     again : (x : Image) → ImageFits x → image (image_tokens x) ≡ Some (Ok x, [])
-    again (images.One u) le = rw (number_again u (omega (arith, le)), within_again 65535 Number u le) refl
-    again (images.Two u v) fits =
+    again (Single u) le = rw (number_again u (omega (arith, le)), within_again 65535 Number u le) refl
+    again (Double u v) fits =
         let a : u ≤ 65535 = fits.0 in
         let b : v ≤ 65535 = fits.1 in
         rw (number_again u (omega (arith, a)), number_again v (omega (arith, b)), within_again 65535 Number u a, within_again 65535 Number v b) refl
 
     clean : (x : Image) → ImageFits x → AllFit IsClean (image_tokens x)
-    clean (images.One u) le = (decimal_clean u (omega (arith, le)), tt)
-    clean (images.Two u v) fits = let a : u ≤ 65535 = fits.0 in let b : v ≤ 65535 = fits.1 in (decimal_clean u (omega (arith, a)), (decimal_clean v (omega (arith, b)), tt))
+    clean (Single u) le = (decimal_clean u (omega (arith, le)), tt)
+    clean (Double u v) fits = let a : u ≤ 65535 = fits.0 in let b : v ≤ 65535 = fits.1 in (decimal_clean u (omega (arith, a)), (decimal_clean v (omega (arith, b)), tt))
 
 some_image : (x : Image) → IsSome (image_tokens x)
-some_image (images.One u) = tt
-some_image (images.Two u v) = tt
+some_image (Single u) = tt
+some_image (Double u v) = tt
 
 pub image_line : IsLine image_form image_tokens ImageFits
 unfolding image_form

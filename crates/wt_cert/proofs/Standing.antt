@@ -1,6 +1,6 @@
 -- Trees and refutations stand for one another.
 use Rattle.std.proofs.Common.{◌≡◌, ℕ, map, ap, sym, refl, ◌∙◌}
-use Rattle.wt_tile.specs.declared.tile.Axis.{Axis}
+use Rattle.wt_grid.specs.declared.axis.Axis.{Axis}
 use Rattle.wt_refute.specs.declared.tree.Tree.{Tree, Branch, Cite, Branch', Row_of-Child, end_of-Child, more_of-Child, items-the_row-Child, items_shown-the_row-Child-0, out-Tree, roll-Tree, roll-out-Tree}
 use Rattle.wt_refute.specs.declared.tree.Tree.TheVariants.{rolls-Branch, rolls-Cite}
 use Rattle.wt_refute.specs.declared.tree.Tree.TheFolds.{fold-roll-Tree}

@@ -1,13 +1,13 @@
 -- A tree to the end of a line, both ways.
 use Rattle.std.proofs.Common.{arith, ◌≡◌, ℕ, zero, suc, ◌+◌, ◌≤◌, Bool, true, List, [], ◌∷◌, ◌++◌, Some, Result, Ok, Err, refl, sym, ap, ◌∙◌}
+use Rattle.wt_grid.specs.declared.axis.Axis.TheVariants.{One, Two}
+use Rattle.wt_grid.specs.declared.axis.Axis.{Axis}
 use Rattle.wt_line.specs.declared.faults.What.{What}
 use Rattle.wt_text.specs.Spellings.{IsClean, AllFit}
 use Rattle.wt_text.specs.Readers.{LineFault, wrong, past}
 use Rattle.wt_text.proofs.Numbers.{decimal_clean, if_some, is_decimal_again}
 use Rattle.wt_text.proofs.Formats.{clean_both, read_is}
 use Rattle.wt_text.proofs.Last.{IsLast}
-use Rattle.wt_tile.specs.declared.tile.Axis.{Axis}
-use Rattle.wt_tile.specs.declared.tile.Axis.TheVariants.{One, Two}
 use Rattle.wt_refute.specs.Refutation.{Refutation, Branches, branch, cite, no_more, more, node_count}
 use Rattle.wt_cert.specs.Trees.{branch_count, axis_word, tree_spelling, branches_spelling, is_forest, is_tree, tree_in, found_tree, tree_to_end, TreeFits, BranchesFit}
 use Rattle.wt_cert.proofs.TreesFound.{tree_found}

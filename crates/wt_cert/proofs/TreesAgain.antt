@@ -1,5 +1,7 @@
 -- A tree that fits is read from its spelling.
 use Rattle.std.proofs.Common.{arith, ◌≡◌, ℕ, zero, suc, ◌+◌, ◌≤◌, ◌<◌, ◌^◌, Bool, true, false, ◌&&◌, List, ◌∷◌, ◌++◌, Some, Ok, codes, refl, ap, ◌∙◌, append_assoc}
+use Rattle.wt_grid.specs.declared.axis.Axis.TheVariants.{One, Two}
+use Rattle.wt_grid.specs.declared.axis.Axis.{Axis}
 use Rattle.std.specs.Str.{bytes_eq, all_ascii_digits}
 use Rattle.std.specs.Fmt.{decimal}
 use Rattle.std.proofs.lemmas.Bool.{le-leb, lt-ltb}
@@ -8,8 +10,6 @@ use Rattle.wt_line.specs.declared.faults.What.{What}
 use Rattle.wt_line.specs.declared.faults.What.TheVariants.{Number}
 use Rattle.wt_text.specs.Words.{number, is_decimal}
 use Rattle.wt_text.proofs.Numbers.{number_again, is_decimal_again, decimal_digits}
-use Rattle.wt_tile.specs.declared.tile.Axis.{Axis}
-use Rattle.wt_tile.specs.declared.tile.Axis.TheVariants.{One, Two}
 use Rattle.wt_refute.specs.Refutation.{Refutation, Branches, branch, cite, no_more, more, node_count}
 use Rattle.wt_cert.specs.Trees.{branch_count, axis_word, tree_spelling, branches_spelling, children, cites, ending, is_forest, limited, cell_in, branches_in, tree_in, TreeFits, BranchesFit}
 

@@ -1,5 +1,6 @@
 -- A tree that is read is spelled so, and fits.
 use Rattle.std.proofs.Common.{arith, ◌≡◌, ℕ, zero, suc, ◌+◌, ◌≤◌, ◌<◌, Bool, true, false, cond, ◌&&◌, nat_le, nat_lt, List, [], ◌∷◌, ◌++◌, Option, Some, None, Result, Ok, Err, codes, option_map, refl, sym, ap, ◌∙◌, append_assoc, subst}
+use Rattle.wt_grid.specs.declared.axis.Axis.TheVariants.{One, Two}
 use Rattle.std.specs.Str.{bytes_eq}
 use Rattle.std.specs.Fmt.{decimal}
 use Rattle.std.proofs.lemmas.Bool.{leb-true, ltb-true}
@@ -10,7 +11,6 @@ use Rattle.wt_text.specs.Words.{number}
 use Rattle.wt_text.specs.Readers.{LineFault, past}
 use Rattle.wt_text.proofs.Numbers.{number_found}
 use Rattle.wt_text.proofs.Texts.{then_ok, ok_is, ok_pair}
-use Rattle.wt_tile.specs.declared.tile.Axis.TheVariants.{One, Two}
 use Rattle.wt_refute.specs.Refutation.{Refutation, Branches, branch, cite, no_more, more, node_count}
 use Rattle.wt_cert.specs.Trees.{branch_count, axis_word, tree_spelling, branches_spelling, Ending, children, cites, ending, limited, cell_in, ending_in, branches_in, grown, tree_in, TreeFits, BranchesFit}
 

@@ -1,8 +1,8 @@
 -- Lines and tokens that are written one after the other.
 use Rattle.std.proofs.Common.{rules, arith, ◌≡◌, ℕ, zero, suc, ◌+◌, Bool, true, false, List, [], ◌∷◌, ◌++◌, ◌<◌, if◌then◌else◌, length, get_or, map, drop, refl, sym, ap, ◌∙◌, append_assoc}
+use Rattle.wt_grid.specs.declared.axis.Axis.{Axis}
 use Rattle.std.proofs.lemmas.List.{append-nil}
 use Rattle.std.specs.Fmt.{decimal}
-use Rattle.wt_tile.specs.declared.tile.Axis.{Axis}
 use Rattle.wt_refute.specs.declared.tree.Tree as tree
 use Rattle.wt_refute.specs.declared.tree.Tree.TheVariants.{rolls-Branch, rolls-Cite}
 use Rattle.wt_refute.specs.declared.tree.Tree.TheOpen.{Tree-F}

@@ -1,8 +1,8 @@
 -- Which chains have a text: those within its limits, whose lists of tiles have their colours numbered by first coming.
 use Rattle.std.specs.Prelude.{◌≡◌, ℕ, ◌≤◌, true, List, length}
+use Rattle.wt_grid.specs.declared.image.Image.TheVariants.{One as Single, Two as Double}
+use Rattle.wt_grid.specs.declared.image.Image.{Image}
 use Rattle.wt_tile.specs.declared.tile.TileList.{TileList}
-use Rattle.wt_morphism.specs.declared.image.Image.{Image}
-use Rattle.wt_morphism.specs.declared.image.Image.TheVariants as images
 use Rattle.wt_refute.specs.View.{refutation}
 use Rattle.wt_refute.specs.declared.tree.Refuted.{Refuted}
 use Rattle.wt_step.specs.declared.raw.Lost.{Lost}
@@ -39,8 +39,8 @@ abbrev pub PairsFit : List (ℕ × ℕ) → Type 0
 PairsFit xs = (length xs ≤ 65536) × AllFit PairFits xs
 
 abbrev pub ImageFits : Image → Type 0
-ImageFits (images.One u) = IsSmall u
-ImageFits (images.Two u v) = IsSmall u × IsSmall v
+ImageFits (Single u) = IsSmall u
+ImageFits (Double u v) = IsSmall u × IsSmall v
 
 abbrev pub ImagesFit : List Image → Type 0
 ImagesFit xs = (length xs ≤ 256) × AllFit ImageFits xs

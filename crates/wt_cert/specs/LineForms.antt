@@ -1,14 +1,14 @@
 -- The lines of a certificate, each by its form and its limits, in the grammar's order. A row of names is in wt_pattern, a tree in Trees.
 use Rattle.std.specs.Prelude.{ℕ, Bool, true, false, List, [], ◌∷◌, Option, None, Some, Result, codes, nat_eq, if◌then◌else◌}
+use Rattle.wt_grid.specs.declared.image.Image.TheVariants.{One as Single, Two as Double}
+use Rattle.wt_grid.specs.declared.image.Image.{Image}
+use Rattle.wt_grid.specs.declared.axis.Side.TheVariants.{After, Before}
+use Rattle.wt_grid.specs.declared.axis.Side.{Side}
+use Rattle.wt_grid.specs.declared.axis.Axis.TheVariants.{One, Two}
+use Rattle.wt_grid.specs.declared.axis.Axis.{Axis}
 use Rattle.std.specs.Fmt.{decimal}
-use Rattle.wt_tile.specs.declared.tile.Axis.{Axis}
-use Rattle.wt_tile.specs.declared.tile.Axis.TheVariants as axes
-use Rattle.wt_tile.specs.declared.tile.Side.{Side}
-use Rattle.wt_tile.specs.declared.tile.Side.TheVariants.{After, Before}
 use Rattle.wt_line.specs.declared.faults.What.{What}
 use Rattle.wt_line.specs.declared.faults.What.TheVariants.{Steps, Radius, Tiles, Pairs, Expansion, Number}
-use Rattle.wt_morphism.specs.declared.image.Image.{Image}
-use Rattle.wt_morphism.specs.declared.image.Image.TheVariants as images
 use Rattle.wt_refute.specs.Refutation.{Refutation}
 use Rattle.wt_chain.specs.declared.raw.Version.{Version}
 use Rattle.wt_chain.specs.declared.raw.Version.TheVariants as versions
@@ -24,7 +24,7 @@ abbrev pub radius : List (List ℕ) → Option (Result ℕ What × List (List �
 radius = number_to 4 Radius
 
 abbrev pub axis : List (List ℕ) → Option (Result Axis What × List (List ℕ))
-axis = either_word (codes "1") axes.One (codes "2") axes.Two
+axis = either_word (codes "1") One (codes "2") Two
 
 abbrev pub side : List (List ℕ) → Option (Result Side What × List (List ℕ))
 side = either_word (codes "after") After (codes "before") Before
@@ -105,11 +105,11 @@ lost_form nodes = whole (both small (tree_to_end true nodes))
 -- ---- images: u, or u v
 
 abbrev pub image_of : ℕ × ℕ → Image
-image_of x = images.Two x.0 x.1
+image_of x = Double x.0 x.1
 
 -- what may stand behind the first tile: nothing, or a second tile
 abbrev pub image_behind : Result ℕ What → List (List ℕ) → Option (Result Image What × List (List ℕ))
-image_behind u [] = Some (mapped images.One u, [])
+image_behind u [] = Some (mapped Single u, [])
 image_behind u (t ∷ ts) = small (t ∷ ts) >>= λ v. Some (mapped image_of (pair u v.0), v.1)
 
 abbrev pub image : List (List ℕ) → Option (Result Image What × List (List ℕ))

@@ -1,11 +1,11 @@
 -- The parts of a certificate, line by line.
 use Rattle.std.specs.Prelude.{ℕ, ◌+◌, List, Result, codes}
-use Rattle.wt_tile.specs.declared.tile.Axis.{Axis}
-use Rattle.wt_tile.specs.declared.tile.Side.{Side}
+use Rattle.wt_grid.specs.declared.image.Image.{Image}
+use Rattle.wt_grid.specs.declared.axis.Side.{Side}
+use Rattle.wt_grid.specs.declared.axis.Axis.{Axis}
 use Rattle.wt_tile.specs.declared.tile.TileList.{TileList}
 use Rattle.wt_line.specs.declared.faults.What.{What}
 use Rattle.wt_line.specs.declared.faults.What.TheVariants.{Tiles, Pairs}
-use Rattle.wt_morphism.specs.declared.image.Image.{Image}
 use Rattle.wt_refute.specs.Refutation.{Refutation, node_count}
 use Rattle.wt_refute.specs.View.{refutation}
 use Rattle.wt_refute.specs.declared.tree.Refuted.{Refuted}

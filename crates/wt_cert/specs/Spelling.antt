@@ -1,13 +1,13 @@
 -- How a chain is written: its lines, token by token, in the grammar's order.
 use Rattle.std.specs.Prelude.{ℕ, ◌+◌, List, [], ◌∷◌, ◌++◌, length, map, codes}
+use Rattle.wt_grid.specs.declared.image.Image.TheVariants.{One as Single, Two as Double}
+use Rattle.wt_grid.specs.declared.image.Image.{Image}
+use Rattle.wt_grid.specs.declared.axis.Side.TheVariants.{After, Before}
+use Rattle.wt_grid.specs.declared.axis.Side.{Side}
+use Rattle.wt_grid.specs.declared.axis.Axis.TheVariants.{One, Two}
+use Rattle.wt_grid.specs.declared.axis.Axis.{Axis}
 use Rattle.std.specs.Fmt.{decimal}
-use Rattle.wt_tile.specs.declared.tile.Axis.{Axis}
-use Rattle.wt_tile.specs.declared.tile.Axis.TheVariants as axes
-use Rattle.wt_tile.specs.declared.tile.Side.{Side}
-use Rattle.wt_tile.specs.declared.tile.Side.TheVariants.{After, Before}
 use Rattle.wt_tile.specs.declared.tile.TileList.{TileList}
-use Rattle.wt_morphism.specs.declared.image.Image.{Image}
-use Rattle.wt_morphism.specs.declared.image.Image.TheVariants as images
 use Rattle.wt_refute.specs.View.{refutation}
 use Rattle.wt_refute.specs.declared.tree.Refuted.{Refuted}
 use Rattle.wt_step.specs.declared.raw.Lost.{Lost}
@@ -41,8 +41,8 @@ version_word versions.One = codes "1"
 version_word versions.Two = codes "2"
 
 abbrev pub axis_digit : Axis → List ℕ
-axis_digit axes.One = codes "1"
-axis_digit axes.Two = codes "2"
+axis_digit One = codes "1"
+axis_digit Two = codes "2"
 
 abbrev pub side_word : Side → List ℕ
 side_word After = codes "after"
@@ -79,8 +79,8 @@ lost_lines xs = line (count_tokens (codes "lost") (length xs)) ++ flat (line_spe
 
 -- images c, and c images
 abbrev pub image_tokens : Image → List (List ℕ)
-image_tokens (images.One u) = decimal u ∷ []
-image_tokens (images.Two u v) = decimal u ∷ decimal v ∷ []
+image_tokens (Single u) = decimal u ∷ []
+image_tokens (Double u v) = decimal u ∷ decimal v ∷ []
 
 abbrev pub images_lines : List Image → List Line
 images_lines xs = line (count_tokens (codes "images") (length xs)) ++ flat (line_spelling image_tokens) xs

@@ -1,15 +1,17 @@
 -- The tables tell how large images grow.
 use Rattle.std.proofs.Common.{arith, ◌≡◌, ◌<◌, ◌≤◌, ◌+◌, ℕ, zero, suc, List, [], ◌∷◌, length, map, replicate, get_or, slice_index_or, Bool, true, false, ◌&&◌, ◌||◌, nat_eq, nat_lt, nat_le, if◌then◌else◌, Option, None, Some, option_map, refl, sym, ◌∙◌, ap}
+use Rattle.wt_grid.specs.Traces.{piece_tiles}
+use Rattle.wt_grid.specs.Images.{first_tile}
+use Rattle.wt_grid.specs.declared.image.Image.TheVariants.{One as Single, Two as Double}
+use Rattle.wt_grid.specs.declared.image.Image.{Image}
+use Rattle.wt_grid.specs.declared.axis.Axis.TheVariants.{One, Two}
+use Rattle.wt_grid.specs.declared.axis.Axis.{Axis}
 use Rattle.std.proofs.lemmas.Bool.Decides.{nat_tests}
 use Rattle.std.proofs.lemmas.List.FromFn.{get_or-map-range_with_len}
 use Rattle.std.proofs.lemmas.List.{get_or-replicate}
-use Rattle.wt_tile.specs.declared.tile.Axis.{Axis}
-use Rattle.wt_tile.specs.declared.tile.Axis.TheVariants.{One, Two}
 use Rattle.wt_tile.specs.declared.tile.TileList.{TileList}
 use Rattle.wt_tile.specs.Sets.{set_fault}
 use Rattle.wt_tile.proofs.Sizes.{few_tiles}
-use Rattle.wt_morphism.specs.declared.image.Image.{Image}
-use Rattle.wt_morphism.specs.declared.image.Image.TheVariants.{One as Single, Two as Double}
 use Rattle.wt_grid.specs.First.{or_else, first_from}
 use Rattle.wt_grid.specs.Order.{all_of, in_order, leads, is_below, follows}
 use Rattle.wt_grid.specs.Widths.{Stage, width, total}
@@ -26,7 +28,7 @@ use Rattle.wt_step.specs.Restrict.{kept_fit, sorting_fault, use_fault, restrict_
 use Rattle.wt_step.specs.Links.{link_fault, fine_of, coarse_of}
 use Rattle.wt_step.proofs.Goodness.{good_step}
 use Rattle.wt_chain.specs.Sets.{AreLinked, last_set, first_count, Closes}
-use Rattle.wt_chain.specs.Growth.{image_of, is_along, tiles_of, first_of, stage, stages, origin_from, origin, renaming_stage, turn, turns}
+use Rattle.wt_chain.specs.Growth.{image_of, is_along, stage, stages, origin_from, origin, renaming_stage, turn, turns}
 use Rattle.wt_bijection.specs.Renaming.{renaming_fault}
 use Rattle.wt_bijection.proofs.Lengths.{no_fault}
 use Rattle.wt_chain.specs.Faults.{growth_fault_at, growth_fault, small_at, first_small}
@@ -50,11 +52,11 @@ ordered_at n (x ∷ xs) t e lt =
     at_place zero l h r = h
     at_place (suc k) l h r = r k (omega arith)
 
-fits_first : (n : ℕ) (image : Image) → image_fits n image ≡ true → first_of image < n
+fits_first : (n : ℕ) (image : Image) → image_fits n image ≡ true → first_tile image < n
 fits_first n (Single a) e = grind (arith, nat_tests, e)
 fits_first n (Double a b) e = let g = both (nat_lt a n) (nat_lt b n) e in grind (arith, nat_tests, g.0)
 
-marker_first : (s : RawStep) → step_fault s ≡ None → (t : ℕ) → t < length s.coarse.tiles → first_of (slice_index_or s.images t (Single 0)) < length s.fine.tiles
+marker_first : (s : RawStep) → step_fault s ≡ None → (t : ℕ) → t < length s.coarse.tiles → first_tile (slice_index_or s.images t (Single 0)) < length s.fine.tiles
 marker_first s e t lt =
     let b = both (nat_eq (length s.images) (length s.coarse.tiles)) (all_of (image_fits (length s.fine.tiles)) s.images) (good_step s e).shaped.images in
     let n : length s.images ≡ length s.coarse.tiles = grind (arith, nat_tests, b.0) in
@@ -85,7 +87,7 @@ restrict_first s e t lt =
     ordered_at (length s.fine.tiles) s.kept t b.0 (omega arith)
 
 -- the first tile of an image is a fine tile
-pub first_fits : (link : RawLink) → link_fault link ≡ None → (t : ℕ) → t < length (coarse_of link).tiles → first_of (image_of link t) < length (fine_of link).tiles
+pub first_fits : (link : RawLink) → link_fault link ≡ None → (t : ℕ) → t < length (coarse_of link).tiles → first_tile (image_of link t) < length (fine_of link).tiles
 unfolding link_fault
 first_fits (Marker s) e t lt = marker_first s e t lt
 first_fits (Restrict s) e t lt = restrict_first s e t lt
@@ -101,13 +103,13 @@ few_coarse link e = (few_tiles (coarse_of link) (coarse_good link e)).1
 -- One step.
 
 pub step_some : (along : Bool) (image : Image) (left : List Stage) → ((t : ℕ) → 1 ≤ width left t)
-    → 1 ≤ (if along then total (width left) (tiles_of image) else width left (first_of image))
+    → 1 ≤ (if along then total (width left) (piece_tiles image) else width left (first_tile image))
 step_some true (Single a) left h = omega (arith, h a)
 step_some true (Double a b) left h = omega (arith, h a)
-step_some false image left h = h (first_of image)
+step_some false image left h = h (first_tile image)
 
-step_tells : (along : Bool) (image : Image) (n : ℕ) (rows : List Bool) (left : List Stage) → IsTable n rows left → first_of image < n
-    → grows_by along image rows ≡ nat_le 2 (if along then total (width left) (tiles_of image) else width left (first_of image))
+step_tells : (along : Bool) (image : Image) (n : ℕ) (rows : List Bool) (left : List Stage) → IsTable n rows left → first_tile image < n
+    → grows_by along image rows ≡ nat_le 2 (if along then total (width left) (piece_tiles image) else width left (first_tile image))
 step_tells true (Single a) n rows left table lt =
     let same : width left a + 0 ≡ width left a = omega arith in rw same (table.tells a lt)
 step_tells true (Double a b) n rows left table lt =

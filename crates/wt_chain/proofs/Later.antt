@@ -1,12 +1,14 @@
 -- Images that ever grow have grown after as many turns as there are tiles.
 use Rattle.std.proofs.Common.{arith, ◌≡◌, ◌≢◌, ◌<◌, ◌≤◌, ◌+◌, ◌-◌, ℕ, zero, suc, List, [], ◌∷◌, length, Option, None, Some, is_none, Bool, true, false, ◌&&◌, ◌||◌, nat_le, min, if◌then◌else◌, refl, sym, ◌∙◌, ap, inl, inr}
+use Rattle.wt_grid.specs.Traces.{piece_tiles}
+use Rattle.wt_grid.specs.Images.{first_tile}
+use Rattle.wt_grid.specs.declared.image.Image.TheVariants.{One as Single, Two as Double}
+use Rattle.wt_grid.specs.declared.image.Image.{Image}
+use Rattle.wt_grid.specs.declared.axis.Axis.TheVariants.{One, Two}
+use Rattle.wt_grid.specs.declared.axis.Axis.{Axis}
 use Rattle.std.proofs.lemmas.Bool.Decides.{nat_tests}
-use Rattle.wt_tile.specs.declared.tile.Axis.{Axis}
-use Rattle.wt_tile.specs.declared.tile.Axis.TheVariants.{One, Two}
 use Rattle.wt_tile.specs.declared.tile.TileList.{TileList}
 use Rattle.wt_tile.proofs.Sizes.{few_tiles}
-use Rattle.wt_morphism.specs.declared.image.Image.{Image}
-use Rattle.wt_morphism.specs.declared.image.Image.TheVariants.{One as Single, Two as Double}
 use Rattle.wt_grid.specs.First.{or_else, first_from}
 use Rattle.std.proofs.lemmas.Bool.{cases_lt}
 use Rattle.wt_grid.specs.Widths.{Stage, width, total}
@@ -19,7 +21,7 @@ use Rattle.wt_step.specs.Links.{fine_of, coarse_of}
 use Rattle.wt_chain.specs.declared.raw.Refusal.{Refusal}
 use Rattle.wt_chain.specs.declared.raw.Refusal.TheVariants.{Expansion}
 use Rattle.wt_chain.specs.Sets.{AreLinked, last_set, first_count, Closes}
-use Rattle.wt_chain.specs.Growth.{image_of, is_along, tiles_of, first_of, stage, stages, origin, renaming_stage, turn, turns, has_grown}
+use Rattle.wt_chain.specs.Growth.{image_of, is_along, stage, stages, origin, renaming_stage, turn, turns, has_grown}
 use Rattle.wt_chain.specs.Faults.{unless, growth_fault_at, growth_fault, enough, least_expansion}
 use Rattle.wt_chain.proofs.Grown.{first_fits, fine_good, step_some, origin_below, first_same}
 use Rattle.wt_chain.proofs.Paths.{ever}
@@ -34,14 +36,14 @@ abbrev starts : Axis → RawLink → ℕ → Bool
 starts axis link t = is_along axis link && is_double (image_of link t)
 
 stage_by : (along : Bool) (image : Image) (left : List Stage) → ((t : ℕ) → 1 ≤ width left t)
-    → nat_le 2 (if along then total (width left) (tiles_of image) else width left (first_of image)) ≡ ((along && is_double image) || nat_le 2 (width left (first_of image)))
+    → nat_le 2 (if along then total (width left) (piece_tiles image) else width left (first_tile image)) ≡ ((along && is_double image) || nat_le 2 (width left (first_tile image)))
 stage_by true (Single a) left some = let same : width left a + 0 ≡ width left a = omega arith in rw same refl
 stage_by true (Double a b) left some = let wide : 2 ≤ width left a + (width left b + 0) = omega (arith, some a, some b) in grind (arith, nat_tests, wide)
 stage_by false (Single a) left some = refl
 stage_by false (Double a b) left some = refl
 
 stage_is : (axis : Axis) (link : RawLink) (left : List Stage) → ((t : ℕ) → 1 ≤ width left t) → (t : ℕ)
-    → nat_le 2 (width (stage axis link ∷ left) t) ≡ (starts axis link t || nat_le 2 (width left (first_of (image_of link t))))
+    → nat_le 2 (width (stage axis link ∷ left) t) ≡ (starts axis link t || nat_le 2 (width left (first_tile (image_of link t))))
 stage_is axis link left some t = stage_by (is_along axis link) (image_of link t) left some
 
 stage_some : (axis : Axis) (link : RawLink) (left : List Stage) → ((t : ℕ) → 1 ≤ width left t) → (t : ℕ) → 1 ≤ width (stage axis link ∷ left) t
@@ -51,7 +53,7 @@ stage_some axis link left some t = step_some (is_along axis link) (image_of link
 
 abbrev follow : List RawLink → ℕ → ℕ
 follow [] u = u
-follow (link ∷ links) u = first_of (image_of link (follow links u))
+follow (link ∷ links) u = first_tile (image_of link (follow links u))
 
 abbrev starts_in : Axis → List RawLink → ℕ → Bool
 starts_in axis [] u = false
@@ -71,7 +73,7 @@ stages_are axis [] left some u = refl
 stages_are axis (link ∷ links) left some u =
     stages_are axis links (stage axis link ∷ left) (stage_some axis link left some) u
     ∙ (ap (λ b. starts_in axis links u || b) (stage_is axis link left some (follow links u))
-    ∙ regroup (starts_in axis links u) (starts axis link (follow links u)) (nat_le 2 (width left (first_of (image_of link (follow links u))))))
+    ∙ regroup (starts_in axis links u) (starts axis link (follow links u)) (nat_le 2 (width left (first_tile (image_of link (follow links u))))))
 
 -- Turns.
 

@@ -1,15 +1,14 @@
 -- The tables of a loop tell how large the images of its tiles are.
 use Rattle.std.proofs.Common.{arith, ◌≡◌, ◌<◌, ◌≤◌, ◌+◌, ◌*◌, ℕ, zero, suc, List, [], ◌∷◌, ◌++◌, length, map, get_or, take, drop, Bool, true, false, if◌then◌else◌, refl, sym, ◌∙◌, ap}
+use Rattle.wt_grid.specs.Axes.{same_axis}
+use Rattle.wt_grid.specs.declared.image.Image.TheVariants.{One as Single, Two as Double}
+use Rattle.wt_grid.specs.declared.image.Image.{Image}
+use Rattle.wt_grid.specs.declared.axis.Axis.TheVariants.{One, Two}
+use Rattle.wt_grid.specs.declared.axis.Axis.{Axis}
 use Rattle.std.proofs.lemmas.List.{take_all}
 use Rattle.std.specs.List.{flat_map}
-use Rattle.wt_tile.specs.declared.tile.Axis.{Axis}
-use Rattle.wt_tile.specs.declared.tile.Axis.TheVariants.{One, Two}
-use Rattle.wt_tile.specs.Matching.{grid_axis, same_axis}
-use Rattle.wt_morphism.specs.declared.image.Image.{Image}
-use Rattle.wt_morphism.specs.declared.image.Image.TheVariants.{One as Single, Two as Double}
-use Rattle.wt_grid.specs.Lines.{Piece, one, two, AllLong}
+use Rattle.wt_grid.specs.Lines.{AllLong}
 use Rattle.wt_grid.specs.Grid.{Grid, IsGrid, cell, along, across, at, listed, lines, of_lines, grid_of}
-use Rattle.wt_grid.specs.Grid.{Axis as GridAxis, one as first_axis, two as second_axis}
 use Rattle.wt_grid.specs.Images.{piece_at, first_tile, last_tile, is_pair, firsts, lasts, is_double, line_image, image_lines, image_grid}
 use Rattle.wt_grid.specs.Traces.{segment, cells_at, piece_tiles}
 use Rattle.wt_grid.specs.Widths.{Stage, next_row, last_row, width, total}
@@ -23,25 +22,25 @@ use Rattle.wt_step.specs.declared.raw.RawLink.{RawLink}
 use Rattle.wt_step.specs.declared.raw.RawLink.TheVariants.{Marker, Restrict}
 use Rattle.wt_morphism.specs.Images.{piece}
 use Rattle.wt_step.specs.Meaning.{pieces_of}
-use Rattle.wt_chain.specs.Growth.{image_of, is_along, tiles_of, first_of, stage, stages, origin, renaming_stage, turn, turns}
+use Rattle.wt_chain.specs.Growth.{image_of, is_along, stage, stages, origin, renaming_stage, turn, turns}
 use Rattle.wt_chain.specs.Turns.{axis_of, image_under, image_through, renamed_back, turned, turned_times, single}
 
 -- Pieces and images.
 
-piece_of : {A : Type 0} (f : A → Piece) (xs : List A) (d : A) (t : ℕ) → get_or (map f xs) t (f d) ≡ f (get_or xs t d)
+piece_of : {A : Type 0} (f : A → Image) (xs : List A) (d : A) (t : ℕ) → get_or (map f xs) t (f d) ≡ f (get_or xs t d)
 piece_of f [] d t = refl
 piece_of f (x ∷ xs) d zero = refl
 piece_of f (x ∷ xs) d (suc t) = piece_of f xs d t
 
 piece_is : (link : RawLink) (t : ℕ) → piece_at (pieces_of link) t ≡ piece (image_of link t)
 piece_is (Marker s) t = piece_of piece s.images (Single 0) t
-piece_is (Restrict s) t = piece_of one s.kept 0 t
+piece_is (Restrict s) t = piece_of Single s.kept 0 t
 
-tiles_are : (image : Image) → piece_tiles (piece image) ≡ tiles_of image
+tiles_are : (image : Image) → piece_tiles (piece image) ≡ piece_tiles image
 tiles_are (Single a) = refl
 tiles_are (Double a b) = refl
 
-first_is : (image : Image) → first_tile (piece image) ≡ first_of image
+first_is : (image : Image) → first_tile (piece image) ≡ first_tile image
 first_is (Single a) = refl
 first_is (Double a b) = refl
 
@@ -51,11 +50,11 @@ cells_append : (j : ℕ) (xs ys : List (List ℕ)) → cells_at j (xs ++ ys) ≡
 cells_append j [] ys = refl
 cells_append j (x ∷ xs) ys = ap (λ zs. get_or x j 0 ∷ zs) (cells_append j xs ys)
 
-line_cells : (im : List Piece) (i : ℕ) (is : List ℕ) (p : Piece) → piece_at im i ≡ p → cells_at 0 (line_image im (i ∷ is)) ≡ piece_tiles p
-line_cells im i is (one a) e = rw e refl
-line_cells im i is (two a b) e = rw e refl
+line_cells : (im : List Image) (i : ℕ) (is : List ℕ) (p : Image) → piece_at im i ≡ p → cells_at 0 (line_image im (i ∷ is)) ≡ piece_tiles p
+line_cells im i is (Single a) e = rw e refl
+line_cells im i is (Double a b) e = rw e refl
 
-first_cells : (im : List Piece) (m : ℕ) (qs : List (List ℕ)) → 1 ≤ m → AllLong m qs
+first_cells : (im : List Image) (m : ℕ) (qs : List (List ℕ)) → 1 ≤ m → AllLong m qs
     → cells_at 0 (image_lines im qs) ≡ flat_map (λ t. piece_tiles (piece_at im t)) (cells_at 0 qs)
 first_cells im m [] le h = refl
 first_cells im m ([] ∷ qs) le h = absurd (let e : 0 ≡ m = h.0 in omega arith)
@@ -64,7 +63,7 @@ first_cells im m ((i ∷ is) ∷ qs) le h =
     ∙ (ap (λ zs. zs ++ cells_at 0 (image_lines im qs)) (line_cells im i is (piece_at im i) refl)
     ∙ ap (λ zs. piece_tiles (piece_at im i) ++ zs) (first_cells im m qs le h.1))
 
-first_of_lines : (im : List Piece) (q : List ℕ) (qs : List (List ℕ)) → get_or (image_lines im (q ∷ qs)) 0 [] ≡ firsts im q
+first_of_lines : (im : List Image) (q : List ℕ) (qs : List (List ℕ)) → get_or (image_lines im (q ∷ qs)) 0 [] ≡ firsts im q
 first_of_lines im q qs = by (is_double im q) refl
   where
     by : (b : Bool) → is_double im q ≡ b → get_or (line_image im q ++ image_lines im qs) 0 [] ≡ firsts im q
@@ -73,14 +72,14 @@ first_of_lines im q qs = by (is_double im q) refl
 
 -- The first row of a rectangle along an axis.
 
-abbrev pub row : GridAxis → Grid → List ℕ
+abbrev pub row : Axis → Grid → List ℕ
 row axis g = listed (along axis g) (λ k. at axis g k 0)
 
-pub row_long : (axis : GridAxis) (g : Grid) → length (row axis g) ≡ along axis g
+pub row_long : (axis : Axis) (g : Grid) → length (row axis g) ≡ along axis g
 row_long axis g = length-listed (along axis g) (λ k. at axis g k 0)
 
 -- its cells stand first in the lines of its axis
-row_cells : (axis : GridAxis) (g : Grid) → 1 ≤ across axis g → row axis g ≡ cells_at 0 (lines axis g)
+row_cells : (axis : Axis) (g : Grid) → 1 ≤ across axis g → row axis g ≡ cells_at 0 (lines axis g)
 row_cells axis g le = sym (listed_map (λ u. get_or u 0 0) (along axis g) (λ i. listed (across axis g) (λ j. at axis g i j))
     ∙ listed_same (along axis g) (λ i. get_or (listed (across axis g) (λ j. at axis g i j)) 0 0) (λ i. at axis g i 0) (λ i lt. get_or-listed (across axis g) 0 (λ j. at axis g i j) 0 le))
 
@@ -88,33 +87,33 @@ row_cells axis g le = sym (listed_map (λ u. get_or u 0 0) (along axis g) (λ i.
 first_line : (n m : ℕ) (a : ℕ → ℕ → ℕ) → 1 ≤ n → get_or (listed n (λ i. listed m (a i))) 0 [] ≡ listed m (a 0)
 first_line n m a le = get_or-listed n 0 (λ i. listed m (a i)) [] le
 
-across_one : (g : Grid) → 1 ≤ g.height → row first_axis g ≡ get_or (lines second_axis g) 0 []
-across_one g le = sym (first_line g.height g.width (λ i j. at second_axis g i j) le)
+across_one : (g : Grid) → 1 ≤ g.height → row One g ≡ get_or (lines Two g) 0 []
+across_one g le = sym (first_line g.height g.width (λ i j. at Two g i j) le)
 
-across_two : (g : Grid) → 1 ≤ g.width → row second_axis g ≡ get_or (lines first_axis g) 0 []
-across_two g le = sym (first_line g.width g.height (λ i j. at first_axis g i j) le)
+across_two : (g : Grid) → 1 ≤ g.width → row Two g ≡ get_or (lines One g) 0 []
+across_two g le = sym (first_line g.width g.height (λ i j. at One g i j) le)
 
 -- The image of a rectangle, along the axis of its pieces and across.
 
-image_is_grid : (axis : GridAxis) (im : List Piece) (q : Grid) → IsGrid q → IsGrid (image_grid axis im q)
+image_is_grid : (axis : Axis) (im : List Image) (q : Grid) → IsGrid q → IsGrid (image_grid axis im q)
 image_is_grid axis im q g =
     let c = image_count im (lines axis q) in
     let n = length_lines axis q in
     let w = wide_along axis q g in
     grid_of_lines axis (across axis q) (image_lines im (lines axis q)) (wide_across axis q g) (omega arith)
   where
-    wide_across : (b : GridAxis) (p : Grid) → IsGrid p → 1 ≤ across b p
-    wide_across first_axis p h = h.high
-    wide_across second_axis p h = h.wide
+    wide_across : (b : Axis) (p : Grid) → IsGrid p → 1 ≤ across b p
+    wide_across One p h = h.high
+    wide_across Two p h = h.wide
 
-image_lines_are : (axis : GridAxis) (im : List Piece) (q : Grid) → lines axis (image_grid axis im q) ≡ image_lines im (lines axis q)
+image_lines_are : (axis : Axis) (im : List Image) (q : Grid) → lines axis (image_grid axis im q) ≡ image_lines im (lines axis q)
 image_lines_are axis im q = lines_of axis (across axis q) (image_lines im (lines axis q)) (long_images im (across axis q) (lines axis q) (long_lines axis q))
 
-across_same : (axis : GridAxis) (m : ℕ) (ls : List (List ℕ)) → across axis (of_lines axis m ls) ≡ m
-across_same first_axis m ls = refl
-across_same second_axis m ls = refl
+across_same : (axis : Axis) (m : ℕ) (ls : List (List ℕ)) → across axis (of_lines axis m ls) ≡ m
+across_same One m ls = refl
+across_same Two m ls = refl
 
-row_along : (axis : GridAxis) (im : List Piece) (q : Grid) → 1 ≤ across axis q
+row_along : (axis : Axis) (im : List Image) (q : Grid) → 1 ≤ across axis q
     → row axis (image_grid axis im q) ≡ flat_map (λ t. piece_tiles (piece_at im t)) (row axis q)
 row_along axis im q le =
     row_cells axis (image_grid axis im q) (rw (across_same axis (across axis q) (image_lines im (lines axis q))) le)
@@ -122,26 +121,26 @@ row_along axis im q le =
     ∙ (first_cells im (across axis q) (lines axis q) le (long_lines axis q)
     ∙ ap (flat_map (λ t. piece_tiles (piece_at im t))) (sym (row_cells axis q le))))
 
-front : (im : List Piece) (qs : List (List ℕ)) → 1 ≤ length qs → get_or (image_lines im qs) 0 [] ≡ firsts im (get_or qs 0 [])
+front : (im : List Image) (qs : List (List ℕ)) → 1 ≤ length qs → get_or (image_lines im qs) 0 [] ≡ firsts im (get_or qs 0 [])
 front im [] le = absurd (omega arith)
 front im (q ∷ qs) le = first_of_lines im q qs
 
-front_line : (axis : GridAxis) (im : List Piece) (q : Grid) → IsGrid q
+front_line : (axis : Axis) (im : List Image) (q : Grid) → IsGrid q
     → get_or (lines axis (image_grid axis im q)) 0 [] ≡ firsts im (get_or (lines axis q) 0 [])
 front_line axis im q g =
     let n = length_lines axis q in
     let w = wide_along axis q g in
     ap (λ ls. get_or ls 0 []) (image_lines_are axis im q) ∙ front im (lines axis q) (omega arith)
 
-across_first : (im : List Piece) (q : Grid) → IsGrid q → row second_axis (image_grid first_axis im q) ≡ firsts im (row second_axis q)
+across_first : (im : List Image) (q : Grid) → IsGrid q → row Two (image_grid One im q) ≡ firsts im (row Two q)
 across_first im q g =
-    across_two (image_grid first_axis im q) (image_is_grid first_axis im q g).wide
-    ∙ (front_line first_axis im q g ∙ ap (firsts im) (sym (across_two q g.wide)))
+    across_two (image_grid One im q) (image_is_grid One im q g).wide
+    ∙ (front_line One im q g ∙ ap (firsts im) (sym (across_two q g.wide)))
 
-across_second : (im : List Piece) (q : Grid) → IsGrid q → row first_axis (image_grid second_axis im q) ≡ firsts im (row first_axis q)
+across_second : (im : List Image) (q : Grid) → IsGrid q → row One (image_grid Two im q) ≡ firsts im (row One q)
 across_second im q g =
-    across_one (image_grid second_axis im q) (image_is_grid second_axis im q g).high
-    ∙ (front_line second_axis im q g ∙ ap (firsts im) (sym (across_one q g.high)))
+    across_one (image_grid Two im q) (image_is_grid Two im q g).high
+    ∙ (front_line Two im q g ∙ ap (firsts im) (sym (across_one q g.high)))
 
 -- One step.
 
@@ -153,32 +152,32 @@ map_same : (f h : ℕ → ℕ) (xs : List ℕ) → ((x : ℕ) → f x ≡ h x) �
 map_same f h [] e = refl
 map_same f h (x ∷ xs) e = rw (e x) (ap (λ zs. h x ∷ zs) (map_same f h xs e))
 
-tiles_at : (link : RawLink) (t : ℕ) → piece_tiles (piece_at (pieces_of link) t) ≡ tiles_of (image_of link t)
+tiles_at : (link : RawLink) (t : ℕ) → piece_tiles (piece_at (pieces_of link) t) ≡ piece_tiles (image_of link t)
 tiles_at link t = ap piece_tiles (piece_is link t) ∙ tiles_are (image_of link t)
 
-first_at : (link : RawLink) (t : ℕ) → first_tile (piece_at (pieces_of link) t) ≡ first_of (image_of link t)
+first_at : (link : RawLink) (t : ℕ) → first_tile (piece_at (pieces_of link) t) ≡ first_tile (image_of link t)
 first_at link t = ap first_tile (piece_is link t) ∙ first_is (image_of link t)
 
-all_tiles : (link : RawLink) (xs : List ℕ) → flat_map (λ t. piece_tiles (piece_at (pieces_of link) t)) xs ≡ flat_map (λ t. tiles_of (image_of link t)) xs
-all_tiles link xs = flat_same (λ t. piece_tiles (piece_at (pieces_of link) t)) (λ t. tiles_of (image_of link t)) xs (tiles_at link)
+all_tiles : (link : RawLink) (xs : List ℕ) → flat_map (λ t. piece_tiles (piece_at (pieces_of link) t)) xs ≡ flat_map (λ t. piece_tiles (image_of link t)) xs
+all_tiles link xs = flat_same (λ t. piece_tiles (piece_at (pieces_of link) t)) (λ t. piece_tiles (image_of link t)) xs (tiles_at link)
 
-all_firsts : (link : RawLink) (xs : List ℕ) → firsts (pieces_of link) xs ≡ map (λ t. first_of (image_of link t)) xs
-all_firsts link xs = map_same (λ t. first_tile (piece_at (pieces_of link) t)) (λ t. first_of (image_of link t)) xs (first_at link)
+all_firsts : (link : RawLink) (xs : List ℕ) → firsts (pieces_of link) xs ≡ map (λ t. first_tile (image_of link t)) xs
+all_firsts link xs = map_same (λ t. first_tile (piece_at (pieces_of link) t)) (λ t. first_tile (image_of link t)) xs (first_at link)
 
 single_tiles : (kept : List ℕ) (xs : List ℕ) → flat_map (λ t. get_or kept t 0 ∷ []) xs ≡ map (λ t. get_or kept t 0) xs
 single_tiles kept [] = refl
 single_tiles kept (x ∷ xs) = ap (λ zs. get_or kept x 0 ∷ zs) (single_tiles kept xs)
 
-step_row : (axis : Axis) (link : RawLink) (q : Grid) → IsGrid q → row (grid_axis axis) (image_under link q) ≡ next_row (stage axis link) (row (grid_axis axis) q)
-step_row One (Restrict s) q g = row_along first_axis (pieces_of (Restrict s)) q g.high ∙ (all_tiles (Restrict s) (row first_axis q) ∙ single_tiles s.kept (row first_axis q))
-step_row Two (Restrict s) q g = across_first (pieces_of (Restrict s)) q g ∙ all_firsts (Restrict s) (row second_axis q)
+step_row : (axis : Axis) (link : RawLink) (q : Grid) → IsGrid q → row axis (image_under link q) ≡ next_row (stage axis link) (row axis q)
+step_row One (Restrict s) q g = row_along One (pieces_of (Restrict s)) q g.high ∙ (all_tiles (Restrict s) (row One q) ∙ single_tiles s.kept (row One q))
+step_row Two (Restrict s) q g = across_first (pieces_of (Restrict s)) q g ∙ all_firsts (Restrict s) (row Two q)
 step_row axis (Marker s) q g = by axis s.axis refl
   where
-    by : (a b : Axis) → s.axis ≡ b → row (grid_axis a) (image_grid (grid_axis s.axis) (pieces_of (Marker s)) q) ≡ next_row (stage a (Marker s)) (row (grid_axis a) q)
-    by One One e = rw e (row_along first_axis (pieces_of (Marker s)) q g.high ∙ all_tiles (Marker s) (row first_axis q))
-    by Two Two e = rw e (row_along second_axis (pieces_of (Marker s)) q g.wide ∙ all_tiles (Marker s) (row second_axis q))
-    by One Two e = rw e (across_second (pieces_of (Marker s)) q g ∙ all_firsts (Marker s) (row first_axis q))
-    by Two One e = rw e (across_first (pieces_of (Marker s)) q g ∙ all_firsts (Marker s) (row second_axis q))
+    by : (a b : Axis) → s.axis ≡ b → row a (image_grid s.axis (pieces_of (Marker s)) q) ≡ next_row (stage a (Marker s)) (row a q)
+    by One One e = rw e (row_along One (pieces_of (Marker s)) q g.high ∙ all_tiles (Marker s) (row One q))
+    by Two Two e = rw e (row_along Two (pieces_of (Marker s)) q g.wide ∙ all_tiles (Marker s) (row Two q))
+    by One Two e = rw e (across_second (pieces_of (Marker s)) q g ∙ all_firsts (Marker s) (row One q))
+    by Two One e = rw e (across_first (pieces_of (Marker s)) q g ∙ all_firsts (Marker s) (row Two q))
 
 -- All steps.
 
@@ -187,7 +186,7 @@ through_is_grid [] q g = g
 through_is_grid (link ∷ links) q g = image_is_grid (axis_of link) (pieces_of link) (image_through links q) (through_is_grid links q g)
 
 through_row : (axis : Axis) (links : List RawLink) (left : List Stage) (q : Grid) → IsGrid q
-    → last_row left (row (grid_axis axis) (image_through links q)) ≡ last_row (stages axis links left) (row (grid_axis axis) q)
+    → last_row left (row axis (image_through links q)) ≡ last_row (stages axis links left) (row axis q)
 through_row axis [] left q g = refl
 through_row axis (link ∷ links) left q g =
     ap (last_row left) (step_row axis link (image_through links q) (through_is_grid links q g))
@@ -198,7 +197,7 @@ through_row axis (link ∷ links) left q g =
 renamed_is_grid : (renaming : List ℕ) (g : Grid) → IsGrid g → IsGrid (renamed_back renaming g)
 renamed_is_grid renaming g h = record { wide = h.wide; high = h.high; whole = length-listed (g.width * g.height) _ }
 
-renamed_row : (axis : Axis) (renaming : List ℕ) (g : Grid) → IsGrid g → row (grid_axis axis) (renamed_back renaming g) ≡ map (λ t. origin renaming t) (row (grid_axis axis) g)
+renamed_row : (axis : Axis) (renaming : List ℕ) (g : Grid) → IsGrid g → row axis (renamed_back renaming g) ≡ map (λ t. origin renaming t) (row axis g)
 renamed_row One renaming g h =
     listed_same g.width (λ k. cell (renamed_back renaming g) k 0) (λ k. origin renaming (cell g k 0)) (λ k lt. cell_of g.width g.height k 0 (λ x y. origin renaming (cell g x y)) lt h.high)
     ∙ sym (listed_map (λ t. origin renaming t) g.width (λ k. cell g k 0))
@@ -212,13 +211,13 @@ turned_is_grid : (loop : List RawLink) (renaming : List ℕ) (g : Grid) → IsGr
 turned_is_grid loop renaming g h = through_is_grid loop (renamed_back renaming g) (renamed_is_grid renaming g h)
 
 turned_row : (axis : Axis) (loop : List RawLink) (renaming : List ℕ) (left : List Stage) (g : Grid) → IsGrid g
-    → last_row left (row (grid_axis axis) (turned loop renaming g)) ≡ last_row (turn axis loop renaming left) (row (grid_axis axis) g)
+    → last_row left (row axis (turned loop renaming g)) ≡ last_row (turn axis loop renaming left) (row axis g)
 turned_row axis loop renaming left g h =
     through_row axis loop left (renamed_back renaming g) (renamed_is_grid renaming g h)
     ∙ ap (last_row (stages axis loop left)) (renamed_row axis renaming g h)
 
 pub times_row : (axis : Axis) (loop : List RawLink) (renaming : List ℕ) (n : ℕ) (g : Grid) → IsGrid g
-    → row (grid_axis axis) (turned_times loop renaming n g) ≡ last_row (turns axis loop renaming n) (row (grid_axis axis) g)
+    → row axis (turned_times loop renaming n g) ≡ last_row (turns axis loop renaming n) (row axis g)
 times_row axis loop renaming zero g h = refl
 times_row axis loop renaming (suc n) g h =
     times_row axis loop renaming n (turned loop renaming g) (turned_is_grid loop renaming g h)
@@ -230,10 +229,10 @@ one_width ss t = length_last ss (t ∷ []) ∙ (let e : total (width ss) (t ∷ 
 -- the image of a tile after so many turns is as wide, and as high, as the stages of its axis say
 pub wide : (loop : List RawLink) (renaming : List ℕ) (n t : ℕ) → (turned_times loop renaming n (single t)).width ≡ width (turns One loop renaming n) t
 wide loop renaming n t =
-    sym (row_long first_axis (turned_times loop renaming n (single t)))
+    sym (row_long One (turned_times loop renaming n (single t)))
     ∙ (ap length (times_row One loop renaming n (single t) (record { wide = omega arith; high = omega arith; whole = refl })) ∙ one_width (turns One loop renaming n) t)
 
 pub high : (loop : List RawLink) (renaming : List ℕ) (n t : ℕ) → (turned_times loop renaming n (single t)).height ≡ width (turns Two loop renaming n) t
 high loop renaming n t =
-    sym (row_long second_axis (turned_times loop renaming n (single t)))
+    sym (row_long Two (turned_times loop renaming n (single t)))
     ∙ (ap length (times_row Two loop renaming n (single t) (record { wide = omega arith; high = omega arith; whole = refl })) ∙ one_width (turns Two loop renaming n) t)

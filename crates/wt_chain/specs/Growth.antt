@@ -1,10 +1,12 @@
 -- How large the images of tiles grow in a loop.
 use Rattle.std.specs.Prelude.{ℕ, zero, suc, ◌+◌, List, [], ◌∷◌, length, Bool, true, false, ◌&&◌, nat_eq, nat_le, slice_index, slice_index_or, if◌then◌else◌}
-use Rattle.wt_tile.specs.declared.tile.Axis.{Axis}
-use Rattle.wt_tile.specs.declared.tile.Axis.TheVariants.{One, Two}
-use Rattle.wt_tile.specs.Matching.{same_axis}
-use Rattle.wt_morphism.specs.declared.image.Image.{Image}
-use Rattle.wt_morphism.specs.declared.image.Image.TheVariants.{One as Single, Two as Double}
+use Rattle.wt_grid.specs.Axes.{same_axis}
+use Rattle.wt_grid.specs.Traces.{piece_tiles}
+use Rattle.wt_grid.specs.Images.{first_tile}
+use Rattle.wt_grid.specs.declared.image.Image.TheVariants.{One as Single, Two as Double}
+use Rattle.wt_grid.specs.declared.image.Image.{Image}
+use Rattle.wt_grid.specs.declared.axis.Axis.TheVariants.{One, Two}
+use Rattle.wt_grid.specs.declared.axis.Axis.{Axis}
 use Rattle.wt_grid.specs.Widths.{Stage, width}
 use Rattle.wt_step.specs.declared.raw.RawLink.{RawLink}
 use Rattle.wt_step.specs.declared.raw.RawLink.TheVariants.{Marker, Restrict}
@@ -19,17 +21,9 @@ abbrev pub is_along : Axis → RawLink → Bool
 is_along axis (Marker s) = same_axis axis s.axis
 is_along axis (Restrict s) = false
 
-abbrev pub tiles_of : Image → List ℕ
-tiles_of (Single a) = a ∷ []
-tiles_of (Double a b) = a ∷ b ∷ []
-
-abbrev pub first_of : Image → ℕ
-first_of (Single a) = a
-first_of (Double a b) = a
-
 -- a step's images, as they widen a row along an axis
 abbrev pub stage : Axis → RawLink → Stage
-stage axis link = record { is_along = is_along axis link; pieces = λ t. tiles_of (image_of link t); first = λ t. first_of (image_of link t) }
+stage axis link = record { is_along = is_along axis link; pieces = λ t. piece_tiles (image_of link t); first = λ t. first_tile (image_of link t) }
 
 -- the tile that is carried onto t
 abbrev pub origin_from : ℕ → List ℕ → ℕ → ℕ

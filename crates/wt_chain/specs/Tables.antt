@@ -1,9 +1,9 @@
 -- Tables that say for each tile whether its image is at least two long.
 use Rattle.std.specs.Prelude.{ℕ, zero, suc, ◌≡◌, ◌<◌, ◌≤◌, List, [], ◌∷◌, map, replicate, Bool, false, ◌||◌, nat_le, slice_index_or}
+use Rattle.wt_grid.specs.declared.image.Image.TheVariants.{One as Single, Two as Double}
+use Rattle.wt_grid.specs.declared.image.Image.{Image}
+use Rattle.wt_grid.specs.declared.axis.Axis.{Axis}
 use Rattle.std.specs.List.{range_with_len}
-use Rattle.wt_tile.specs.declared.tile.Axis.{Axis}
-use Rattle.wt_morphism.specs.declared.image.Image.{Image}
-use Rattle.wt_morphism.specs.declared.image.Image.TheVariants.{One as Single, Two as Double}
 use Rattle.wt_grid.specs.Widths.{Stage, width}
 use Rattle.wt_step.specs.declared.raw.RawLink.{RawLink}
 use Rattle.wt_chain.specs.Growth.{image_of, is_along, origin}

@@ -1,8 +1,8 @@
 -- What a loop makes of a rectangle over its first set.
 use Rattle.std.specs.Prelude.{ℕ, zero, suc, List, [], ◌∷◌}
-use Rattle.wt_tile.specs.Matching.{grid_axis}
-use Rattle.wt_grid.specs.Grid.{Grid, Axis, cell, grid_of}
-use Rattle.wt_grid.specs.Grid.{one as first_axis}
+use Rattle.wt_grid.specs.declared.axis.Axis.TheVariants.{One}
+use Rattle.wt_grid.specs.declared.axis.Axis.{Axis}
+use Rattle.wt_grid.specs.Grid.{Grid, cell, grid_of}
 use Rattle.wt_grid.specs.Images.{image_grid}
 use Rattle.wt_step.specs.declared.raw.RawLink.{RawLink}
 use Rattle.wt_step.specs.declared.raw.RawLink.TheVariants.{Marker, Restrict}
@@ -11,8 +11,8 @@ use Rattle.wt_chain.specs.Growth.{origin}
 
 -- the axis along which a step's images lie; those of a restrict step are single tiles
 abbrev pub axis_of : RawLink → Axis
-axis_of (Marker s) = grid_axis s.axis
-axis_of (Restrict s) = first_axis
+axis_of (Marker s) = s.axis
+axis_of (Restrict s) = One
 
 -- the rectangle that a coarse rectangle stands for
 abbrev pub image_under : RawLink → Grid → Grid

@@ -1,7 +1,7 @@
 // How large the images of tiles grow in a loop: tables that say for each tile whether its image is at least two long.
 ghost use Rattle.std.specs.Prelude.{◌≡◌, ◌+◌, ◌<◌, ◌≤◌, length, false, slice_index};
+ghost use Rattle.wt_grid.specs.declared.axis.Axis.TheVariants.{One, Two};
 ghost use Rattle.wt_chain.specs.Growth as growth;
-ghost use Rattle.wt_tile.specs.declared.tile.Axis.TheVariants.{One, Two};
 ghost use Rattle.wt_chain.specs.Sets.{Closes, first_count};
 ghost use Rattle.wt_chain.specs.Faults as faults;
 ghost use Rattle.wt_chain.specs.Tables.{renamed_table, turns_table};

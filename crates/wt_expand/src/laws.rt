@@ -1,6 +1,7 @@
 // What the rows of a pick are, level by level.
 ghost use Rattle.std.specs.Prelude.{◌≡◌, ◌+◌, ◌*◌, ◌∷◌, ◌<◌, ◌≤◌, None, ℕ, List, [], max, length, take, drop, slice_index_or};
-ghost use Rattle.wt_grid.specs.Grid.{lines, two};
+ghost use Rattle.wt_grid.specs.declared.axis.Axis.TheVariants.{Two};
+ghost use Rattle.wt_grid.specs.Grid.{lines};
 ghost use Rattle.wt_chain.specs.declared.raw.RawChain.{RawChain};
 ghost use Rattle.wt_chain.specs.declared.raw.End.TheVariants.{Loop};
 ghost use Rattle.wt_chain.specs.Faults.{chain_fault};
@@ -15,7 +16,7 @@ ghost use Rattle.wt_expand.specs.Picks.{HasRows};
 /// loop, are the rows that come below tile 0 level by level, each row as one row or two.
 pub fn rows_of_images()
     ensures { (c : RawChain) → chain_fault c ≡ None → (start e : ℕ) (list : List ℕ) → c.end ≡ Loop start list e → (turns : ℕ)
-        → lines two (image_through (take start c.steps) (turned_times (drop start c.steps) list turns (single 0))) ≡ all_rows list (spec.levels c.steps start turns) }
+        → lines Two (image_through (take start c.steps) (turned_times (drop start c.steps) list turns (single 0))) ≡ all_rows list (spec.levels c.steps start turns) }
 {}
 
 /// The first w tiles of a row tell the first w cells of each row that it stands for. So rows that stand below

@@ -1,8 +1,10 @@
 -- Lines in the opposite order.
 use Rattle.std.proofs.Common.{arith, ◌≡◌, ℕ, List, [], ◌∷◌, ◌++◌, append_assoc, length-append, length, Bool, Some, slice_get, refl, sym, inl, inr, subst}
+use Rattle.wt_grid.specs.declared.image.Image.TheVariants.{One as Single, Two as Double}
+use Rattle.wt_grid.specs.declared.image.Image.{Image}
 use Rattle.std.proofs.lemmas.List.{append-nil}
 use Rattle.wt_grid.specs.Cuts.{backwards, opposite}
-use Rattle.wt_grid.specs.Lines.{Piece, one, two, IsAcross, IsBeside, IsField, Singles, Pairs, IsImage, AllFilled}
+use Rattle.wt_grid.specs.Lines.{IsAcross, IsBeside, IsField, Singles, Pairs, IsImage, AllFilled}
 
 pub backwards_append : {A : Type 0} (xs ys : List A) → backwards (xs ++ ys) ≡ backwards ys ++ backwards xs
 backwards_append [] ys = sym (append-nil (backwards ys))
@@ -52,7 +54,7 @@ filled_backwards [] h = tt
 filled_backwards (u ∷ ls) h = let k = filled_first u ls h in filled_more (backwards ls) u (filled_backwards ls k.1) k.0
 
 -- the images of two runs of coarse lines, one behind the other
-pub image_append : (im : List Piece) (qs qs' ls ls' : List (List ℕ)) → IsImage im qs ls → IsImage im qs' ls' → IsImage im (qs ++ qs') (ls ++ ls')
+pub image_append : (im : List Image) (qs qs' ls ls' : List (List ℕ)) → IsImage im qs ls → IsImage im qs' ls' → IsImage im (qs ++ qs') (ls ++ ls')
 image_append im [] qs' [] ls' i j = j
 image_append im (q ∷ qs) qs' [] ls' i j = absurd i
 image_append im [] qs' (u ∷ ls) ls' i j = absurd i
@@ -64,11 +66,11 @@ image_append im (q ∷ qs) qs' (u ∷ v ∷ ls) ls' i j = elim i [
 ]
 
 -- the pieces of the second list are those of the first, backwards
-pub record AreOpposite (im om : List Piece) : Type 0 where
-  pub ones : (i a : ℕ) → slice_get im i ≡ Some (one a) → slice_get om i ≡ Some (one a)
-  pub twos : (i a b : ℕ) → slice_get im i ≡ Some (two a b) → slice_get om i ≡ Some (two b a)
+pub record AreOpposite (im om : List Image) : Type 0 where
+  pub ones : (i a : ℕ) → slice_get im i ≡ Some (Single a) → slice_get om i ≡ Some (Single a)
+  pub twos : (i a b : ℕ) → slice_get im i ≡ Some (Double a b) → slice_get om i ≡ Some (Double b a)
 
-module _ (im om : List Piece) (o : AreOpposite im om) where
+module _ (im om : List Image) (o : AreOpposite im om) where
   singles_opposite : (q u : List ℕ) → Singles im q u → Singles om q u
   singles_opposite [] [] s = tt
   singles_opposite [] (a ∷ as') s = absurd s

@@ -1,8 +1,8 @@
 -- Lines that repeat themselves at a distance are cut into blocks that do.
 use Rattle.std.proofs.Common.{arith, ◌≡◌, ◌⊎◌, ◌≤◌, ◌<◌, ◌+◌, ℕ, zero, suc, List, [], ◌∷◌, ◌++◌, length, take, drop, Bool, true, false, cond, Some, refl, sym, ap, ◌∙◌, subst, inl, inr}
+use Rattle.wt_grid.specs.declared.image.Image.TheVariants.{One as Single, Two as Double}
 use Rattle.std.proofs.lemmas.List.{take-append-drop}
 use Rattle.wt_grid.specs.Lines.{Table, IsGood, IsAcross, IsField, Singles, Pairs, IsImage, is_marker_line, cut_end, AllFilled, Begins, Shift, KeepsBlocks}
-use Rattle.wt_grid.specs.Lines.{one, two}
 use Rattle.wt_grid.specs.Cuts.{cut_front, cut_lines}
 use Rattle.wt_grid.specs.Shifts.{Same, Meets, Repeats}
 use Rattle.wt_grid.proofs.Cut.{begins, filled_front}
@@ -92,7 +92,7 @@ module _ (t : Table) (good : IsGood t) where
   same_singles (i ∷ is) (j ∷ js) [] v s k h = absurd s
   same_singles (i ∷ is) (j ∷ js) (x ∷ xs) [] s k h = absurd k
   same_singles (i ∷ is) (j ∷ js) (x ∷ xs) (y ∷ ys) s k h =
-      (good.distinct i j (one x) s.0 (k.0 ∙ ap (λ (z : ℕ). Some (one z)) (sym h.0)), same_singles is js xs ys s.1 k.1 h.1)
+      (good.distinct i j (Single x) s.0 (k.0 ∙ ap (λ (z : ℕ). Some (Single z)) (sym h.0)), same_singles is js xs ys s.1 k.1 h.1)
 
   same_pairs : (q r u v u' v' : List ℕ) → Pairs t.images q u u' → Pairs t.images r v v' → Same u v → Same u' v' → Same q r
   same_pairs [] r u v u' v' s k h g = tt
@@ -102,7 +102,7 @@ module _ (t : Table) (good : IsGood t) where
   same_pairs (i ∷ is) (j ∷ js) (x ∷ xs) [] (x' ∷ xs') v' s k h g = absurd k
   same_pairs (i ∷ is) (j ∷ js) (x ∷ xs) (y ∷ ys) (x' ∷ xs') [] s k h g = absurd k
   same_pairs (i ∷ is) (j ∷ js) (x ∷ xs) (y ∷ ys) (x' ∷ xs') (y' ∷ ys') s k h g =
-      (good.distinct i j (two x x') s.0 (k.0 ∙ (ap (λ (z : ℕ). Some (two z y')) (sym h.0) ∙ ap (λ (z : ℕ). Some (two x z)) (sym g.0))), same_pairs is js xs ys xs' ys' s.1 k.1 h.1 g.1)
+      (good.distinct i j (Double x x') s.0 (k.0 ∙ (ap (λ (z : ℕ). Some (Double z y')) (sym h.0) ∙ ap (λ (z : ℕ). Some (Double x z)) (sym g.0))), same_pairs is js xs ys xs' ys' s.1 k.1 h.1 g.1)
 
   -- a line that fits across has one flag
   one_flag : (a : ℕ) (c : ℕ) (cs : List ℕ) (x : ℕ) (xs : List ℕ) → IsAcross t.across (c ∷ cs) → drop a (c ∷ cs) ≡ x ∷ xs → t.marker c ≡ t.marker x

@@ -1,10 +1,14 @@
 -- A period of a core is a period of its coarse rectangle.
 use Rattle.std.proofs.Common.{arith, ◌≡◌, ◌≤◌, ◌<◌, ◌+◌, ℕ, zero, suc, List, [], ◌∷◌, length, take, drop, get_or, Bool, refl, sym, ap, ◌∙◌, subst}
+use Rattle.wt_grid.specs.Axes.{other}
+use Rattle.wt_grid.specs.declared.image.Image.{Image}
+use Rattle.wt_grid.specs.declared.axis.Side.{Side}
+use Rattle.wt_grid.specs.declared.axis.Axis.{Axis}
 use Rattle.std.proofs.lemmas.List.{get_or-drop, length-drop}
-use Rattle.wt_grid.specs.Lines.{Piece, IsGood, IsImage, AllLong}
-use Rattle.wt_grid.specs.Cuts.{Side, cut, table}
-use Rattle.wt_grid.specs.Grid.{Grid, IsGrid, Axis, along, across, at, lines}
-use Rattle.wt_grid.specs.Parts.{other, core, IsValid}
+use Rattle.wt_grid.specs.Lines.{IsGood, IsImage, AllLong}
+use Rattle.wt_grid.specs.Cuts.{cut, table}
+use Rattle.wt_grid.specs.Grid.{Grid, IsGrid, along, across, at, lines}
+use Rattle.wt_grid.specs.Parts.{core, IsValid}
 use Rattle.wt_grid.specs.Shifts.{Same, Meets, Repeats, IsRepeated}
 use Rattle.wt_grid.specs.Images.{image_lines}
 use Rattle.wt_grid.proofs.Parts.{at_core, along_core, across_core}
@@ -89,7 +93,7 @@ core_repeated axis r d a b g h i j li la lb =
     ∙ (ap (λ (k : ℕ). at axis g (r + (i + d)) k) (sym eb) ∙ sym (at_core axis r g (i + d) (j + b) li lb)))))
 
 -- what a period of a core becomes on its coarse rectangle
-pub record IsCarried (axis : Axis) (im : List Piece) (d a b : ℕ) (q : Grid) (n : ℕ) : Type 0 where
+pub record IsCarried (axis : Axis) (im : List Image) (d a b : ℕ) (q : Grid) (n : ℕ) : Type 0 where
   pub few : n ≤ along axis q
   pub repeated : IsRepeated axis n a b q
   -- n coarse lines fill d lines, wherever they begin
@@ -106,7 +110,7 @@ length_take zero xs lt = refl
 length_take (suc d) [] lt = absurd (omega arith)
 length_take (suc d) (x ∷ xs) lt = ap suc (length_take d xs (omega arith))
 
-module _ (axis : Axis) (side : Side) (allows : Axis → ℕ → ℕ → Bool) (marker : ℕ → Bool) (im : List Piece)
+module _ (axis : Axis) (side : Side) (allows : Axis → ℕ → ℕ → Bool) (marker : ℕ → Bool) (im : List Image)
     (good : IsGood (table side (allows axis) (allows (other axis)) marker im)) where
   pub carried_grid : (c q : Grid) (d a b : ℕ) → IsValid allows c → IsGrid q → IsImage im (lines axis q) (cut side marker (lines axis c))
       → d + 3 ≤ along axis c → a < across axis c → b < across axis c → IsRepeated axis d a b c → (n : ℕ) × IsCarried axis im d a b q n

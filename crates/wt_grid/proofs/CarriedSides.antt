@@ -1,10 +1,14 @@
 -- Blocks that repeat themselves: for both sides, and wherever a run of them begins.
 use Rattle.std.proofs.Common.{arith, ◌≡◌, ◌⊎◌, ◌≤◌, ◌<◌, ◌+◌, ◌-◌, ℕ, zero, suc, List, [], ◌∷◌, ◌++◌, length, length-append, take, drop, get_or, Bool, true, false, cond, Some, slice_get, map, refl, sym, ap, ◌∙◌, subst, inl, inr}
+use Rattle.wt_grid.specs.declared.image.Image.TheVariants.{One as Single, Two as Double}
+use Rattle.wt_grid.specs.declared.image.Image.{Image}
+use Rattle.wt_grid.specs.declared.axis.Side.TheVariants.{After, Before}
+use Rattle.wt_grid.specs.declared.axis.Side.{Side}
 use Rattle.std.proofs.lemmas.List.{take-append-drop, get_or-drop, length-drop, get_or_append_left, get_or-append_right}
 use Rattle.std.proofs.lemmas.Option.{get_or_from_slice_get}
 use Rattle.std.proofs.Math.Seq.{drop-append_seam, take-append_seam}
-use Rattle.wt_grid.specs.Lines.{Piece, one, two, IsGood, IsAcross, IsField, Singles, Pairs, IsImage, is_marker_line, AllLong, Shift}
-use Rattle.wt_grid.specs.Cuts.{backwards, opposite, cut_front, cut_lines, Side, after, before, cut, flip, table}
+use Rattle.wt_grid.specs.Lines.{IsGood, IsAcross, IsField, Singles, Pairs, IsImage, is_marker_line, AllLong, Shift}
+use Rattle.wt_grid.specs.Cuts.{backwards, opposite, cut_front, cut_lines, cut, flip, table}
 use Rattle.wt_grid.specs.Shifts.{Same, Meets, Repeats, fill}
 use Rattle.wt_grid.specs.Images.{piece_at, first_tile, last_tile, is_pair, firsts, lasts, is_double, line_image, image_lines, IsEvenLine, IsEven}
 use Rattle.wt_grid.proofs.Grids.{long_coarse, filled_long}
@@ -14,13 +18,13 @@ use Rattle.wt_grid.proofs.Carried.{EachLine, each_drop, shift_tail, shift_with, 
 
 -- ---- the image of coarse lines is the computed one
 
-one_stands : (im : List Piece) (i a : ℕ) → slice_get im i ≡ Some (one a) → piece_at im i ≡ one a
-one_stands im i a e = get_or_from_slice_get im i (one a) (one 0) e
+one_stands : (im : List Image) (i a : ℕ) → slice_get im i ≡ Some (Single a) → piece_at im i ≡ Single a
+one_stands im i a e = get_or_from_slice_get im i (Single a) (Single 0) e
 
-two_stands : (im : List Piece) (i a b : ℕ) → slice_get im i ≡ Some (two a b) → piece_at im i ≡ two a b
-two_stands im i a b e = get_or_from_slice_get im i (two a b) (one 0) e
+two_stands : (im : List Image) (i a b : ℕ) → slice_get im i ≡ Some (Double a b) → piece_at im i ≡ Double a b
+two_stands im i a b e = get_or_from_slice_get im i (Double a b) (Single 0) e
 
-singles_found : (im : List Piece) (q u : List ℕ) → Singles im q u → (u ≡ firsts im q) × IsEvenLine im false q
+singles_found : (im : List Image) (q u : List ℕ) → Singles im q u → (u ≡ firsts im q) × IsEvenLine im false q
 singles_found im [] [] s = (refl, tt)
 singles_found im [] (a ∷ as') s = absurd s
 singles_found im (i ∷ is) [] s = absurd s
@@ -30,7 +34,7 @@ singles_found im (i ∷ is) (a ∷ as') s =
     let f : first_tile (piece_at im i) ≡ a = ap first_tile e in
     (cc, (ap is_pair e, r.1))
 
-pairs_found : (im : List Piece) (q u v : List ℕ) → Pairs im q u v → (u ≡ firsts im q) × (v ≡ lasts im q) × IsEvenLine im true q
+pairs_found : (im : List Image) (q u v : List ℕ) → Pairs im q u v → (u ≡ firsts im q) × (v ≡ lasts im q) × IsEvenLine im true q
 pairs_found im [] [] [] s = (refl, refl, tt)
 pairs_found im [] [] (b ∷ bs) s = absurd s
 pairs_found im [] (a ∷ as') v s = absurd s
@@ -44,26 +48,26 @@ pairs_found im (i ∷ is) (a ∷ as') (b ∷ bs) s =
     (cc, cc, (ap is_pair e, r.2))
 
 -- a line of images of one length, which isn't empty, tells the length
-even_double : (im : List Piece) (b : Bool) (i : ℕ) (is : List ℕ) → IsEvenLine im b (i ∷ is) → is_double im (i ∷ is) ≡ b
+even_double : (im : List Image) (b : Bool) (i : ℕ) (is : List ℕ) → IsEvenLine im b (i ∷ is) → is_double im (i ∷ is) ≡ b
 even_double im b i is e = e.0
 
-even_itself : (im : List Piece) (b : Bool) (q : List ℕ) → 1 ≤ length q → IsEvenLine im b q → (is_double im q ≡ b) × IsEvenLine im (is_double im q) q
+even_itself : (im : List Image) (b : Bool) (q : List ℕ) → 1 ≤ length q → IsEvenLine im b q → (is_double im q ≡ b) × IsEvenLine im (is_double im q) q
 even_itself im b [] le e = absurd (omega arith)
 even_itself im b (i ∷ is) le e = (e.0, subst (λ (c : Bool). IsEvenLine im c (i ∷ is)) (sym e.0) e)
 
-single_image : (im : List Piece) (q u : List ℕ) (qs ls : List (List ℕ)) → 1 ≤ length q → Singles im q u → ls ≡ image_lines im qs → u ∷ ls ≡ image_lines im (q ∷ qs)
+single_image : (im : List Image) (q u : List ℕ) (qs ls : List (List ℕ)) → 1 ≤ length q → Singles im q u → ls ≡ image_lines im qs → u ∷ ls ≡ image_lines im (q ∷ qs)
 single_image im q u qs ls le s e =
     let f = singles_found im q u s in
     let d = even_itself im false q le f.1 in
     rw d.0 (ap (λ (x : List ℕ). x ∷ ls) f.0 ∙ ap (λ (y : List (List ℕ)). firsts im q ∷ y) e)
 
-pair_image : (im : List Piece) (q u v : List ℕ) (qs ls : List (List ℕ)) → 1 ≤ length q → Pairs im q u v → ls ≡ image_lines im qs → u ∷ v ∷ ls ≡ image_lines im (q ∷ qs)
+pair_image : (im : List Image) (q u v : List ℕ) (qs ls : List (List ℕ)) → 1 ≤ length q → Pairs im q u v → ls ≡ image_lines im qs → u ∷ v ∷ ls ≡ image_lines im (q ∷ qs)
 pair_image im q u v qs ls le s e =
     let f = pairs_found im q u v s in
     let d = even_itself im true q le f.2 in
     rw d.0 (ap (λ (x : List ℕ). x ∷ v ∷ ls) f.0 ∙ (ap (λ (x : List ℕ). firsts im q ∷ x ∷ ls) f.1 ∙ ap (λ (y : List (List ℕ)). firsts im q ∷ lasts im q ∷ y) e))
 
-pub image_found : (im : List Piece) (m : ℕ) (qs ls : List (List ℕ)) → 1 ≤ m → AllLong m qs → IsImage im qs ls → (ls ≡ image_lines im qs) × IsEven im qs
+pub image_found : (im : List Image) (m : ℕ) (qs ls : List (List ℕ)) → 1 ≤ m → AllLong m qs → IsImage im qs ls → (ls ≡ image_lines im qs) × IsEven im qs
 image_found im m [] [] le l i = (refl, tt)
 image_found im m [] (u ∷ ls) le l i = absurd i
 image_found im m (q ∷ qs) [] le l i = absurd i
@@ -81,10 +85,10 @@ image_found im m (q ∷ qs) (u ∷ v ∷ ls) le l i =
 -- ---- how many lines a run of blocks fills
 
 -- the lines of one block
-abbrev pub size : List Piece → List ℕ → ℕ
+abbrev pub size : List Image → List ℕ → ℕ
 size im q = length (line_image im q)
 
-pub fill_image : (im : List Piece) (qs : List (List ℕ)) → length (image_lines im qs) ≡ fill (size im) qs
+pub fill_image : (im : List Image) (qs : List (List ℕ)) → length (image_lines im qs) ≡ fill (size im) qs
 fill_image im [] = refl
 fill_image im (q ∷ qs) = let e = length-append (line_image im q) (image_lines im qs) in let r = fill_image im qs in omega arith
 
@@ -119,31 +123,31 @@ windows f n (suc k) (q ∷ qs) le s =
 
 -- ---- blocks that meet are as large
 
-even_at : (im : List Piece) (b : Bool) (a : ℕ) (q : List ℕ) (x : ℕ) (xs : List ℕ) → IsEvenLine im b q → drop a q ≡ x ∷ xs → is_pair (piece_at im x) ≡ b
+even_at : (im : List Image) (b : Bool) (a : ℕ) (q : List ℕ) (x : ℕ) (xs : List ℕ) → IsEvenLine im b q → drop a q ≡ x ∷ xs → is_pair (piece_at im x) ≡ b
 even_at im b zero [] x xs e d = absurd cc
 even_at im b (suc a) [] x xs e d = absurd cc
 even_at im b zero (i ∷ is) x xs e d = let z : i ≡ x = cc in subst (λ (k : ℕ). is_pair (piece_at im k) ≡ b) z e.0
 even_at im b (suc a) (i ∷ is) x xs e d = even_at im b a is x xs e.1 d
 
 -- even lines, longer than a and b
-abbrev EvenLong : List Piece → ℕ → ℕ → List ℕ → Type 0
+abbrev EvenLong : List Image → ℕ → ℕ → List ℕ → Type 0
 EvenLong im a b q = IsEvenLine im (is_double im q) q × (a < length q) × (b < length q)
 
-same_double : (im : List Piece) (a b : ℕ) (q r : List ℕ) → Meets a b q r → EvenLong im a b q → EvenLong im a b r → is_double im q ≡ is_double im r
+same_double : (im : List Image) (a b : ℕ) (q r : List ℕ) → Meets a b q r → EvenLong im a b q → EvenLong im a b r → is_double im q ≡ is_double im r
 same_double im a b q r m e f =
     let x = first_left a q (let h : a < length q = e.1 in omega arith) in
     let y = first_left b r (let h : b < length r = f.2 in omega arith) in
     let s : Same (x.0 ∷ x.1) (y.0 ∷ y.1) = subst (λ (w : List ℕ). Same (x.0 ∷ x.1) w) y.2 (subst (λ (w : List ℕ). Same w (drop b r)) x.2 m) in
     sym (even_at im (is_double im q) a q x.0 x.1 e.0 x.2) ∙ (ap (λ (k : ℕ). is_pair (piece_at im k)) s.0 ∙ even_at im (is_double im r) b r y.0 y.1 f.0 y.2)
 
-size_is : (im : List Piece) (q : List ℕ) (b : Bool) → is_double im q ≡ b → size im q ≡ cond b 2 1
+size_is : (im : List Image) (q : List ℕ) (b : Bool) → is_double im q ≡ b → size im q ≡ cond b 2 1
 size_is im q true e = rw e refl
 size_is im q false e = rw e refl
 
-same_size : (im : List Piece) (a b : ℕ) (q r : List ℕ) → Meets a b q r → EvenLong im a b q → EvenLong im a b r → size im q ≡ size im r
+same_size : (im : List Image) (a b : ℕ) (q r : List ℕ) → Meets a b q r → EvenLong im a b q → EvenLong im a b r → size im q ≡ size im r
 same_size im a b q r m e f = size_is im q (is_double im r) (same_double im a b q r m e f) ∙ sym (size_is im r (is_double im r) refl)
 
-even_long : (im : List Piece) (a b m : ℕ) (qs : List (List ℕ)) → a < m → b < m → IsEven im qs → AllLong m qs → EachLine (EvenLong im a b) qs
+even_long : (im : List Image) (a b m : ℕ) (qs : List (List ℕ)) → a < m → b < m → IsEven im qs → AllLong m qs → EachLine (EvenLong im a b) qs
 even_long im a b m [] la lb e l = tt
 even_long im a b m (q ∷ qs) la lb e l = ((e.0, (let h : length q ≡ m = l.0 in omega arith), (let h : length q ≡ m = l.0 in omega arith)), even_long im a b m qs la lb e.1 l.1)
 
@@ -152,7 +156,7 @@ shift_map R S [] ys h s = tt
 shift_map R S (x ∷ xs) [] h s = tt
 shift_map R S (x ∷ xs) (y ∷ ys) h s = (h x y s.0, shift_map R S xs ys h s.1)
 
-pub sizes_repeat : (im : List Piece) (a b m n : ℕ) (qs : List (List ℕ)) → a < m → b < m → IsEven im qs → AllLong m qs → Repeats a b n qs → Shift (AsLarge (size im)) qs (drop n qs)
+pub sizes_repeat : (im : List Image) (a b m n : ℕ) (qs : List (List ℕ)) → a < m → b < m → IsEven im qs → AllLong m qs → Repeats a b n qs → Shift (AsLarge (size im)) qs (drop n qs)
 sizes_repeat im a b m n qs la lb e l r =
     let each = even_long im a b m qs la lb e l in
     shift_map (λ u v. Meets a b u v × EvenLong im a b u × EvenLong im a b v) (AsLarge (size im)) qs (drop n qs) (λ u v h. same_size im a b u v h.0 h.1 h.2)
@@ -228,20 +232,20 @@ fill_same : (f g : List ℕ → ℕ) (xs : List (List ℕ)) → ((u : List ℕ) 
 fill_same f g [] h = refl
 fill_same f g (x ∷ xs) h = let a = h x in let r = fill_same f g xs h in omega arith
 
-pair_flip : (p : Piece) → is_pair (flip p) ≡ is_pair p
-pair_flip (one a) = refl
-pair_flip (two a b) = refl
+pair_flip : (p : Image) → is_pair (flip p) ≡ is_pair p
+pair_flip (Single a) = refl
+pair_flip (Double a b) = refl
 
-at_flip : (im : List Piece) (i : ℕ) → piece_at (map flip im) i ≡ flip (piece_at im i)
+at_flip : (im : List Image) (i : ℕ) → piece_at (map flip im) i ≡ flip (piece_at im i)
 at_flip [] i = refl
 at_flip (p ∷ ps) zero = refl
 at_flip (p ∷ ps) (suc i) = at_flip ps i
 
-double_flip : (im : List Piece) (q : List ℕ) → is_double (map flip im) q ≡ is_double im q
+double_flip : (im : List Image) (q : List ℕ) → is_double (map flip im) q ≡ is_double im q
 double_flip im [] = refl
 double_flip im (i ∷ is) = ap is_pair (at_flip im i) ∙ pair_flip (piece_at im i)
 
-size_flip : (im : List Piece) (q : List ℕ) → size (map flip im) q ≡ size im q
+size_flip : (im : List Image) (q : List ℕ) → size (map flip im) q ≡ size im q
 size_flip im q = size_is (map flip im) q (is_double im q) (double_flip im q) ∙ sym (size_is im q (is_double im q) refl)
 
 -- ---- the law, for both sides
@@ -276,20 +280,20 @@ long_take m (suc d) [] h = tt
 long_take m (suc d) (u ∷ ls) h = (h.0, long_take m d ls h.1)
 
 -- what a period of lines becomes on the blocks: n blocks, which fill d lines wherever they begin
-abbrev pub Carried : List Piece → ℕ → ℕ → ℕ → List (List ℕ) → ℕ → Type 0
+abbrev pub Carried : List Image → ℕ → ℕ → ℕ → List (List ℕ) → ℕ → Type 0
 Carried im a b d qs n = (n ≤ length qs) × Repeats a b n qs × ((k : ℕ) → k + n ≤ length qs → length (image_lines im (take n (drop k qs))) ≡ d)
 
-carry_after : (al ac : ℕ → ℕ → Bool) (marker : ℕ → Bool) (im : List Piece) → IsGood (table after al ac marker im) → (a b m d : ℕ) (ls qs : List (List ℕ)) → a < m → b < m → AllLong m ls → IsField al ac ls
+carry_after : (al ac : ℕ → ℕ → Bool) (marker : ℕ → Bool) (im : List Image) → IsGood (table After al ac marker im) → (a b m d : ℕ) (ls qs : List (List ℕ)) → a < m → b < m → AllLong m ls → IsField al ac ls
     → d + 3 ≤ length ls → Repeats a b d ls → IsImage im qs (cut_lines marker ls) → (n : ℕ) × Carried im a b d qs n
 carry_after al ac marker im good a b m d ls qs la lb l f le s i =
-    let t = table after al ac marker im in
-    let one : 1 ≤ m = omega arith in
-    let r = carry_cut t good a b ls qs d (filled_long m ls one l) (all_fit al ac a b m ls la lb l f) f le s i in
-    let lq : AllLong m qs = long_coarse im m qs (cut_lines marker ls) i (cut_long after m marker ls l) in
+    let t = table After al ac marker im in
+    let Single : 1 ≤ m = omega arith in
+    let r = carry_cut t good a b ls qs d (filled_long m ls Single l) (all_fit al ac a b m ls la lb l f) f le s i in
+    let lq : AllLong m qs = long_coarse im m qs (cut_lines marker ls) i (cut_long After m marker ls l) in
     let le' = length_front marker ls in
     let lt : AllLong m (take d (cut_front marker ls)) = long_take m d (cut_front marker ls) (long_front m marker ls l) in
-    let found = image_found im m r.0 (take d (cut_front marker ls)) one (long_coarse im m r.0 (take d (cut_front marker ls)) r.3 lt) r.3 in
-    let even = (image_found im m qs (cut_lines marker ls) one lq i).1 in
+    let found = image_found im m r.0 (take d (cut_front marker ls)) Single (long_coarse im m r.0 (take d (cut_front marker ls)) r.3 lt) r.3 in
+    let even = (image_found im m qs (cut_lines marker ls) Single lq i).1 in
     let n : ℕ = length r.0 in
     let back : drop n qs ≡ r.1 = ap (drop n) r.2 ∙ drop-append_seam r.0 r.1 in
     let front : take n qs ≡ r.0 = ap (take n) r.2 ∙ take-append_seam r.0 r.1 in
@@ -311,12 +315,12 @@ take_rest zero (x ∷ xs) le = absurd (let h : suc (length xs) ≤ 0 = le in ome
 take_rest (suc n) [] le = refl
 take_rest (suc n) (x ∷ xs) le = ap (λ (ys : List (List ℕ)). x ∷ ys) (take_rest n xs (omega arith))
 
-carry_before : (al ac : ℕ → ℕ → Bool) (marker : ℕ → Bool) (im : List Piece) → IsGood (table before al ac marker im) → (a b m d : ℕ) (ls qs : List (List ℕ)) → a < m → b < m → AllLong m ls → IsField al ac ls
-    → d + 3 ≤ length ls → Repeats a b d ls → IsImage im qs (cut before marker ls) → (n : ℕ) × Carried im a b d qs n
+carry_before : (al ac : ℕ → ℕ → Bool) (marker : ℕ → Bool) (im : List Image) → IsGood (table Before al ac marker im) → (a b m d : ℕ) (ls qs : List (List ℕ)) → a < m → b < m → AllLong m ls → IsField al ac ls
+    → d + 3 ≤ length ls → Repeats a b d ls → IsImage im qs (cut Before marker ls) → (n : ℕ) × Carried im a b d qs n
 carry_before al ac marker im good a b m d ls qs la lb l f le s i =
     let om = map flip im in
     let L = cut_lines marker (backwards ls) in
-    let one : 1 ≤ m = omega arith in
+    let Single : 1 ≤ m = omega arith in
     let j : IsImage om (backwards qs) L = subst (λ (ys : List (List ℕ)). IsImage om (backwards qs) ys) (backwards_twice L) (image_backwards im om (flipped im) qs (backwards L) i) in
     let len = length-backwards ls in
     let r = carry_after (opposite al) ac marker om good b a m d (backwards ls) (backwards qs) lb la (long_backwards m ls l) (field_backwards al ac ls f) (omega arith) (repeats_backwards a b d ls s) j in
@@ -324,8 +328,8 @@ carry_before al ac marker im good a b m d ls qs la lb l f le s i =
     let lenq = length-backwards qs in
     let few : n ≤ length qs = (let h = r.1.0 in omega arith) in
     let rep : Repeats a b n qs = subst (λ (ys : List (List ℕ)). Shift (Meets a b) ys (drop n ys)) (backwards_twice qs) (repeats_backwards b a n (backwards qs) r.1.1) in
-    let lq : AllLong m qs = long_coarse im m qs (cut before marker ls) i (cut_long before m marker ls l) in
-    let even = (image_found im m qs (cut before marker ls) one lq i).1 in
+    let lq : AllLong m qs = long_coarse im m qs (cut Before marker ls) i (cut_long Before m marker ls l) in
+    let even = (image_found im m qs (cut Before marker ls) Single lq i).1 in
     let large = sizes_repeat im a b m n qs la lb even lq rep in
     let k : ℕ = length qs - n in
     let last : length (image_lines om (take n (drop k (backwards qs)))) ≡ d = r.1.2 k (omega arith) in
@@ -337,7 +341,7 @@ carry_before al ac marker im good a b m d ls qs la lb l f le s i =
     (n, (few, rep, λ k' lk. fill_image im (take n (drop k' qs)) ∙ (windows (size im) n k' qs lk large ∙ total)))
 
 -- A period of the lines of a core is a period of its blocks.
-pub carry : (side : Side) (al ac : ℕ → ℕ → Bool) (marker : ℕ → Bool) (im : List Piece) → IsGood (table side al ac marker im) → (a b m d : ℕ) (ls qs : List (List ℕ)) → a < m → b < m → AllLong m ls → IsField al ac ls
+pub carry : (side : Side) (al ac : ℕ → ℕ → Bool) (marker : ℕ → Bool) (im : List Image) → IsGood (table side al ac marker im) → (a b m d : ℕ) (ls qs : List (List ℕ)) → a < m → b < m → AllLong m ls → IsField al ac ls
     → d + 3 ≤ length ls → Repeats a b d ls → IsImage im qs (cut side marker ls) → (n : ℕ) × Carried im a b d qs n
-carry after al ac marker im good a b m d ls qs la lb l f le s i = carry_after al ac marker im good a b m d ls qs la lb l f le s i
-carry before al ac marker im good a b m d ls qs la lb l f le s i = carry_before al ac marker im good a b m d ls qs la lb l f le s i
+carry After al ac marker im good a b m d ls qs la lb l f le s i = carry_after al ac marker im good a b m d ls qs la lb l f le s i
+carry Before al ac marker im good a b m d ls qs la lb l f le s i = carry_before al ac marker im good a b m d ls qs la lb l f le s i

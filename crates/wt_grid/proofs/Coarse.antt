@@ -1,37 +1,39 @@
 -- What a field is cut into is a field.
 use Rattle.std.proofs.Common.{◌≡◌, ℕ, List, [], ◌∷◌, Bool, true, Some, slice_get, refl, inl, inr}
-use Rattle.wt_grid.specs.Lines.{Piece, one, two, IsAcross, IsBeside, IsField, Singles, Pairs, IsImage}
+use Rattle.wt_grid.specs.declared.image.Image.TheVariants.{One as Single, Two as Double}
+use Rattle.wt_grid.specs.declared.image.Image.{Image}
+use Rattle.wt_grid.specs.Lines.{IsAcross, IsBeside, IsField, Singles, Pairs, IsImage}
 
-abbrev pub first : Piece → ℕ
-first (one a) = a
-first (two a b) = a
+abbrev pub first : Image → ℕ
+first (Single a) = a
+first (Double a b) = a
 
-abbrev pub last : Piece → ℕ
-last (one a) = a
-last (two a b) = b
+abbrev pub last : Image → ℕ
+last (Single a) = a
+last (Double a b) = b
 
 -- pieces of one length match piece by piece
-abbrev pub MatchAcross : (ℕ → ℕ → Bool) → Piece → Piece → Type 0
-MatchAcross f (one a) (one b) = f a b ≡ true
-MatchAcross f (one a) (two c d) = ⊥
-MatchAcross f (two a b) (one c) = ⊥
-MatchAcross f (two a b) (two c d) = (f a c ≡ true) × (f b d ≡ true)
+abbrev pub MatchAcross : (ℕ → ℕ → Bool) → Image → Image → Type 0
+MatchAcross f (Single a) (Single b) = f a b ≡ true
+MatchAcross f (Single a) (Double c d) = ⊥
+MatchAcross f (Double a b) (Single c) = ⊥
+MatchAcross f (Double a b) (Double c d) = (f a c ≡ true) × (f b d ≡ true)
 
 -- each tile's piece begins (or ends) with this tile
-abbrev pub Edge : (Piece → ℕ) → List Piece → List ℕ → List ℕ → Type 0
+abbrev pub Edge : (Image → ℕ) → List Image → List ℕ → List ℕ → Type 0
 Edge f images [] [] = Unit {0}
 Edge f images [] (a ∷ as') = ⊥
 Edge f images (i ∷ is) [] = ⊥
-Edge f images (i ∷ is) (a ∷ as') = ((p : Piece) × (slice_get images i ≡ Some p) × (f p ≡ a)) × Edge f images is as'
+Edge f images (i ∷ is) (a ∷ as') = ((p : Image) × (slice_get images i ≡ Some p) × (f p ≡ a)) × Edge f images is as'
 
-module _ (images : List Piece) (m1 m2 c1 c2 : ℕ → ℕ → Bool)
-    (joins : (i j : ℕ) (p r : Piece) → slice_get images i ≡ Some p → slice_get images j ≡ Some r → m1 (last p) (first r) ≡ true → c1 i j ≡ true)
-    (stacks : (i j : ℕ) (p r : Piece) → slice_get images i ≡ Some p → slice_get images j ≡ Some r → MatchAcross m2 p r → c2 i j ≡ true) where
-  singles_edge : (f : Piece → ℕ) → ((a : ℕ) → f (one a) ≡ a) → (q u : List ℕ) → Singles images q u → Edge f images q u
+module _ (images : List Image) (m1 m2 c1 c2 : ℕ → ℕ → Bool)
+    (joins : (i j : ℕ) (p r : Image) → slice_get images i ≡ Some p → slice_get images j ≡ Some r → m1 (last p) (first r) ≡ true → c1 i j ≡ true)
+    (stacks : (i j : ℕ) (p r : Image) → slice_get images i ≡ Some p → slice_get images j ≡ Some r → MatchAcross m2 p r → c2 i j ≡ true) where
+  singles_edge : (f : Image → ℕ) → ((a : ℕ) → f (Single a) ≡ a) → (q u : List ℕ) → Singles images q u → Edge f images q u
   singles_edge f e [] [] s = tt
   singles_edge f e [] (a ∷ as') s = absurd s
   singles_edge f e (i ∷ is) [] s = absurd s
-  singles_edge f e (i ∷ is) (a ∷ as') s = ((one a, s.0, e a), singles_edge f e is as' s.1)
+  singles_edge f e (i ∷ is) (a ∷ as') s = ((Single a, s.0, e a), singles_edge f e is as' s.1)
 
   pairs_first : (q u v : List ℕ) → Pairs images q u v → Edge first images q u
   pairs_first [] [] [] s = tt
@@ -39,7 +41,7 @@ module _ (images : List Piece) (m1 m2 c1 c2 : ℕ → ℕ → Bool)
   pairs_first [] (a ∷ as') v s = absurd s
   pairs_first (i ∷ is) [] v s = absurd s
   pairs_first (i ∷ is) (a ∷ as') [] s = absurd s
-  pairs_first (i ∷ is) (a ∷ as') (b ∷ bs) s = ((two a b, s.0, refl), pairs_first is as' bs s.1)
+  pairs_first (i ∷ is) (a ∷ as') (b ∷ bs) s = ((Double a b, s.0, refl), pairs_first is as' bs s.1)
 
   pairs_last : (q u v : List ℕ) → Pairs images q u v → Edge last images q v
   pairs_last [] [] [] s = tt
@@ -47,7 +49,7 @@ module _ (images : List Piece) (m1 m2 c1 c2 : ℕ → ℕ → Bool)
   pairs_last [] (a ∷ as') v s = absurd s
   pairs_last (i ∷ is) [] v s = absurd s
   pairs_last (i ∷ is) (a ∷ as') [] s = absurd s
-  pairs_last (i ∷ is) (a ∷ as') (b ∷ bs) s = ((two a b, s.0, refl), pairs_last is as' bs s.1)
+  pairs_last (i ∷ is) (a ∷ as') (b ∷ bs) s = ((Double a b, s.0, refl), pairs_last is as' bs s.1)
 
   beside : (q r u v : List ℕ) → Edge last images q u → Edge first images r v → IsBeside m1 u v → IsBeside c1 q r
   beside [] [] u v p s b = tt
@@ -68,7 +70,7 @@ module _ (images : List Piece) (m1 m2 c1 c2 : ℕ → ℕ → Bool)
   single_across (i ∷ []) u s h = tt
   single_across (i ∷ j ∷ is) [] s h = absurd s
   single_across (i ∷ j ∷ is) (a ∷ []) s h = absurd s.1
-  single_across (i ∷ j ∷ is) (a ∷ b ∷ as') s h = (stacks i j (one a) (one b) s.0 s.1.0 h.0, single_across (j ∷ is) (b ∷ as') s.1 h.1)
+  single_across (i ∷ j ∷ is) (a ∷ b ∷ as') s h = (stacks i j (Single a) (Single b) s.0 s.1.0 h.0, single_across (j ∷ is) (b ∷ as') s.1 h.1)
 
   pair_across : (q u v : List ℕ) → Pairs images q u v → IsAcross m2 u → IsAcross m2 v → IsAcross c2 q
   pair_across [] u v s h k = tt
@@ -78,7 +80,7 @@ module _ (images : List Piece) (m1 m2 c1 c2 : ℕ → ℕ → Bool)
   pair_across (i ∷ j ∷ is) (a ∷ []) (b ∷ bs) s h k = absurd s.1
   pair_across (i ∷ j ∷ is) (a ∷ c ∷ as') (b ∷ []) s h k = absurd s.1
   pair_across (i ∷ j ∷ is) (a ∷ c ∷ as') (b ∷ d ∷ bs) s h k =
-      (stacks i j (two a b) (two c d) s.0 s.1.0 (h.0, k.0), pair_across (j ∷ is) (c ∷ as') (d ∷ bs) s.1 h.1 k.1)
+      (stacks i j (Double a b) (Double c d) s.0 s.1.0 (h.0, k.0), pair_across (j ∷ is) (c ∷ as') (d ∷ bs) s.1 h.1 k.1)
 
   begins_with : (q : List ℕ) (qs : List (List ℕ)) (u : List ℕ) (ls : List (List ℕ)) → IsImage images (q ∷ qs) (u ∷ ls) → Edge first images q u
   begins_with q qs u [] i = singles_edge first (λ a. refl) q u i.0

@@ -1,6 +1,7 @@
 -- Each field that begins with no marker line is the image of one coarse field, up to a cut last line.
 use Rattle.std.proofs.Common.{◌≡◌, ◌⊎◌, ℕ, List, [], ◌∷◌, Bool, true, false, refl, sym, inl, inr, subst}
-use Rattle.wt_grid.specs.Lines.{one, two, Table, IsGood, IsAcross, IsBeside, IsField, Singles, Pairs, IsImage, is_marker_line, cut_end, AllFilled, Begins}
+use Rattle.wt_grid.specs.declared.image.Image.TheVariants.{One as Single, Two as Double}
+use Rattle.wt_grid.specs.Lines.{Table, IsGood, IsAcross, IsBeside, IsField, Singles, Pairs, IsImage, is_marker_line, cut_end, AllFilled, Begins}
 
 -- each cell of a line is a marker, or none is
 abbrev pub AllFlagged : (ℕ → Bool) → Bool → List ℕ → Type 0
@@ -101,7 +102,7 @@ module _ (t : Table) (good : IsGood t) where
   one_singles (i ∷ is) [] (a ∷ as') s s' = absurd s'
   one_singles (i ∷ is) (j ∷ js) [] s s' = absurd s
   one_singles (i ∷ is) (j ∷ js) (a ∷ as') s s' =
-      let e = good.distinct i j (one a) s.0 s'.0 in
+      let e = good.distinct i j (Single a) s.0 s'.0 in
       let r = one_singles is js as' s.1 s'.1 in
       cc
 
@@ -116,7 +117,7 @@ module _ (t : Table) (good : IsGood t) where
   one_pairs (i ∷ is) (j ∷ js) [] v s s' = absurd s
   one_pairs (i ∷ is) (j ∷ js) (a ∷ as') [] s s' = absurd s
   one_pairs (i ∷ is) (j ∷ js) (a ∷ as') (b ∷ bs) s s' =
-      let e = good.distinct i j (two a b) s.0 s'.0 in
+      let e = good.distinct i j (Double a b) s.0 s'.0 in
       let r = one_pairs is js as' bs s.1 s'.1 in
       cc
 

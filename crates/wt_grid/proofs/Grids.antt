@@ -1,9 +1,13 @@
 -- Lines and cells.
 use Rattle.std.proofs.Common.{arith, ◌≡◌, ℕ, zero, suc, ◌<◌, ◌≤◌, List, [], ◌∷◌, length, get_or, Bool, true, refl, ap, ◌∙◌, subst, inl, inr}
-use Rattle.wt_grid.specs.Lines.{Piece, IsAcross, IsBeside, IsField, Singles, Pairs, IsImage, AllFilled, AllLong}
-use Rattle.wt_grid.specs.Grid.{Grid, IsGrid, Axis, one, two, along, across, at, listed, lines, of_lines}
+use Rattle.wt_grid.specs.Axes.{other}
+use Rattle.wt_grid.specs.declared.image.Image.{Image}
+use Rattle.wt_grid.specs.declared.axis.Axis.TheVariants.{One, Two}
+use Rattle.wt_grid.specs.declared.axis.Axis.{Axis}
+use Rattle.wt_grid.specs.Lines.{IsAcross, IsBeside, IsField, Singles, Pairs, IsImage, AllFilled, AllLong}
+use Rattle.wt_grid.specs.Grid.{Grid, IsGrid, along, across, at, listed, lines, of_lines}
 use Rattle.wt_grid.proofs.Bridge.{length-listed, cell_of, field_listed}
-use Rattle.wt_grid.specs.Parts.{other, IsValid}
+use Rattle.wt_grid.specs.Parts.{IsValid}
 use Rattle.wt_grid.proofs.Parts.{grid_grid}
 
 across_at : (g : ℕ → ℕ → Bool) (m : ℕ) (a : ℕ → ℕ) → IsAcross g (listed m a) → (j : ℕ) → suc j < m → g (a j) (a (suc j)) ≡ true
@@ -32,14 +36,14 @@ field_across f g (suc (suc n)) m a h (suc i) j li lj = field_across f g (suc n) 
 
 -- The lines of a valid rectangle are a field, and those of no other.
 pub field_lines : (m : Axis → ℕ → ℕ → Bool) (axis : Axis) (g : Grid) → IsValid m g → IsField (m axis) (m (other axis)) (lines axis g)
-field_lines m one g v = field_listed (m one) (m two) g.width g.height (λ i j. at one g i j) (λ i j li lj. v one i j li lj) (λ i j li lj. v two j i lj li)
-field_lines m two g v = field_listed (m two) (m one) g.height g.width (λ i j. at two g i j) (λ i j li lj. v two i j li lj) (λ i j li lj. v one j i lj li)
+field_lines m One g v = field_listed (m One) (m Two) g.width g.height (λ i j. at One g i j) (λ i j li lj. v One i j li lj) (λ i j li lj. v Two j i lj li)
+field_lines m Two g v = field_listed (m Two) (m One) g.height g.width (λ i j. at Two g i j) (λ i j li lj. v Two i j li lj) (λ i j li lj. v One j i lj li)
 
 pub lines_field : (m : Axis → ℕ → ℕ → Bool) (axis : Axis) (g : Grid) → IsField (m axis) (m (other axis)) (lines axis g) → IsValid m g
-lines_field m one g h one i j li lj = field_along (m one) (m two) g.width g.height (λ i j. at one g i j) h i j li lj
-lines_field m one g h two i j li lj = field_across (m one) (m two) g.width g.height (λ i j. at one g i j) h j i lj li
-lines_field m two g h one i j li lj = field_across (m two) (m one) g.height g.width (λ i j. at two g i j) h j i lj li
-lines_field m two g h two i j li lj = field_along (m two) (m one) g.height g.width (λ i j. at two g i j) h i j li lj
+lines_field m One g h One i j li lj = field_along (m One) (m Two) g.width g.height (λ i j. at One g i j) h i j li lj
+lines_field m One g h Two i j li lj = field_across (m One) (m Two) g.width g.height (λ i j. at One g i j) h j i lj li
+lines_field m Two g h One i j li lj = field_across (m Two) (m One) g.height g.width (λ i j. at Two g i j) h j i lj li
+lines_field m Two g h Two i j li lj = field_along (m Two) (m One) g.height g.width (λ i j. at Two g i j) h i j li lj
 
 -- Lines of one length.
 
@@ -83,29 +87,29 @@ of_lines_lines m ls f h e =
     ∙ listed_all ls []
 
 pub lines_of : (axis : Axis) (m : ℕ) (ls : List (List ℕ)) → AllLong m ls → lines axis (of_lines axis m ls) ≡ ls
-lines_of one m ls h = of_lines_lines m ls (λ i j. at one (of_lines one m ls) i j) h (λ i j li lj. cell_of (length ls) m i j (λ x y. get_or (get_or ls x []) y 0) li lj)
-lines_of two m ls h = of_lines_lines m ls (λ i j. at two (of_lines two m ls) i j) h (λ i j li lj. cell_of m (length ls) j i (λ x y. get_or (get_or ls y []) x 0) lj li)
+lines_of One m ls h = of_lines_lines m ls (λ i j. at One (of_lines One m ls) i j) h (λ i j li lj. cell_of (length ls) m i j (λ x y. get_or (get_or ls x []) y 0) li lj)
+lines_of Two m ls h = of_lines_lines m ls (λ i j. at Two (of_lines Two m ls) i j) h (λ i j li lj. cell_of m (length ls) j i (λ x y. get_or (get_or ls y []) x 0) lj li)
 
 pub grid_of_lines : (axis : Axis) (m : ℕ) (ls : List (List ℕ)) → 1 ≤ m → 1 ≤ length ls → IsGrid (of_lines axis m ls)
-grid_of_lines one m ls lm ll = grid_grid (length ls) m (λ x y. get_or (get_or ls x []) y 0) ll lm
-grid_of_lines two m ls lm ll = grid_grid m (length ls) (λ x y. get_or (get_or ls y []) x 0) lm ll
+grid_of_lines One m ls lm ll = grid_grid (length ls) m (λ x y. get_or (get_or ls x []) y 0) ll lm
+grid_of_lines Two m ls lm ll = grid_grid m (length ls) (λ x y. get_or (get_or ls y []) x 0) lm ll
 
 -- Coarse lines are as long as the lines of their image.
 
-length_singles : (im : List Piece) (q u : List ℕ) → Singles im q u → length q ≡ length u
+length_singles : (im : List Image) (q u : List ℕ) → Singles im q u → length q ≡ length u
 length_singles im [] [] s = refl
 length_singles im [] (a ∷ as') s = absurd s
 length_singles im (i ∷ is) [] s = absurd s
 length_singles im (i ∷ is) (a ∷ as') s = ap suc (length_singles im is as' s.1)
 
-length_pairs : (im : List Piece) (q u v : List ℕ) → Pairs im q u v → length q ≡ length u
+length_pairs : (im : List Image) (q u v : List ℕ) → Pairs im q u v → length q ≡ length u
 length_pairs im [] [] v s = refl
 length_pairs im [] (a ∷ as') v s = absurd s
 length_pairs im (i ∷ is) [] v s = absurd s
 length_pairs im (i ∷ is) (a ∷ as') [] s = absurd s
 length_pairs im (i ∷ is) (a ∷ as') (b ∷ bs) s = ap suc (length_pairs im is as' bs s.1)
 
-pub long_coarse : (im : List Piece) (m : ℕ) (qs ls : List (List ℕ)) → IsImage im qs ls → AllLong m ls → AllLong m qs
+pub long_coarse : (im : List Image) (m : ℕ) (qs ls : List (List ℕ)) → IsImage im qs ls → AllLong m ls → AllLong m qs
 long_coarse im m [] [] i h = tt
 long_coarse im m [] (u ∷ ls) i h = absurd i
 long_coarse im m (q ∷ qs) [] i h = absurd i

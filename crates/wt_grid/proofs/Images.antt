@@ -1,66 +1,68 @@
 -- The image of coarse lines that match is a field of fine lines.
 use Rattle.std.proofs.Common.{◌≡◌, ◌<◌, ◌++◌, ℕ, List, [], ◌∷◌, length, Bool, true, false, Some, slice_get, refl, sym, ap, subst, ◌∙◌, inl, inr}
+use Rattle.wt_grid.specs.declared.image.Image.TheVariants.{One as Single, Two as Double}
+use Rattle.wt_grid.specs.declared.image.Image.{Image}
 use Rattle.std.proofs.lemmas.Option.{slice_get-get_or}
-use Rattle.wt_grid.specs.Lines.{Piece, one, two, IsAcross, IsBeside, IsField, Singles, Pairs, IsImage}
+use Rattle.wt_grid.specs.Lines.{IsAcross, IsBeside, IsField, Singles, Pairs, IsImage}
 use Rattle.wt_grid.specs.Images.{piece_at, first_tile, last_tile, is_pair, firsts, lasts, is_double, line_image, image_lines, IsEvenLine, IsEven, LineBelow, LinesBelow}
 use Rattle.wt_grid.proofs.Coarse.{MatchAcross}
 
 -- the piece of a tile that has one
-stands : (im : List Piece) (i : ℕ) → i < length im → slice_get im i ≡ Some (piece_at im i)
-stands im i lt = slice_get-get_or im i (one 0) lt
+stands : (im : List Image) (i : ℕ) → i < length im → slice_get im i ≡ Some (piece_at im i)
+stands im i lt = slice_get-get_or im i (Single 0) lt
 
-is_one : (p : Piece) → is_pair p ≡ false → p ≡ one (first_tile p)
-is_one (one a) e = refl
-is_one (two a b) e = absurd cc
+is_one : (p : Image) → is_pair p ≡ false → p ≡ Single (first_tile p)
+is_one (Single a) e = refl
+is_one (Double a b) e = absurd cc
 
-is_two : (p : Piece) → is_pair p ≡ true → p ≡ two (first_tile p) (last_tile p)
-is_two (one a) e = absurd cc
-is_two (two a b) e = refl
+is_two : (p : Image) → is_pair p ≡ true → p ≡ Double (first_tile p) (last_tile p)
+is_two (Single a) e = absurd cc
+is_two (Double a b) e = refl
 
 -- Even lines have an image.
 
-singles_of : (im : List Piece) (q : List ℕ) → LineBelow (length im) q → IsEvenLine im false q → Singles im q (firsts im q)
+singles_of : (im : List Image) (q : List ℕ) → LineBelow (length im) q → IsEvenLine im false q → Singles im q (firsts im q)
 singles_of im [] b e = tt
 singles_of im (i ∷ is) b e = (stands im i b.0 ∙ ap Some (is_one (piece_at im i) e.0), singles_of im is b.1 e.1)
 
-pairs_of : (im : List Piece) (q : List ℕ) → LineBelow (length im) q → IsEvenLine im true q → Pairs im q (firsts im q) (lasts im q)
+pairs_of : (im : List Image) (q : List ℕ) → LineBelow (length im) q → IsEvenLine im true q → Pairs im q (firsts im q) (lasts im q)
 pairs_of im [] b e = tt
 pairs_of im (i ∷ is) b e = (stands im i b.0 ∙ ap Some (is_two (piece_at im i) e.0), pairs_of im is b.1 e.1)
 
-one_before : (im : List Piece) (q : List ℕ) (qs : List (List ℕ)) (u : List ℕ) (ls : List (List ℕ)) → Singles im q u → IsImage im qs ls → IsImage im (q ∷ qs) (u ∷ ls)
+one_before : (im : List Image) (q : List ℕ) (qs : List (List ℕ)) (u : List ℕ) (ls : List (List ℕ)) → Singles im q u → IsImage im qs ls → IsImage im (q ∷ qs) (u ∷ ls)
 one_before im q qs u [] s i = (s, i)
 one_before im q qs u (v ∷ ls) s i = inl (s, i)
 
-image_of_line : (im : List Piece) (q : List ℕ) (qs ls : List (List ℕ)) (b : Bool) → is_double im q ≡ b → LineBelow (length im) q → IsEvenLine im b q → IsImage im qs ls
+image_of_line : (im : List Image) (q : List ℕ) (qs ls : List (List ℕ)) (b : Bool) → is_double im q ≡ b → LineBelow (length im) q → IsEvenLine im b q → IsImage im qs ls
     → IsImage im (q ∷ qs) (line_image im q ++ ls)
 image_of_line im q qs ls true e b h i = rw e (inr (pairs_of im q b h, i))
 image_of_line im q qs ls false e b h i = rw e (one_before im q qs (firsts im q) ls (singles_of im q b h) i)
 
-pub even_image : (im : List Piece) (qs : List (List ℕ)) → LinesBelow (length im) qs → IsEven im qs → IsImage im qs (image_lines im qs)
+pub even_image : (im : List Image) (qs : List (List ℕ)) → LinesBelow (length im) qs → IsEven im qs → IsImage im qs (image_lines im qs)
 even_image im [] b e = tt
 even_image im (q ∷ qs) b e = image_of_line im q qs (image_lines im qs) (is_double im q) refl b.0 e.0 (even_image im qs b.1 e.1)
 
 -- The lines of an image fit together where their coarse lines do.
 
-one_length : (f : ℕ → ℕ → Bool) (p r : Piece) → MatchAcross f p r → is_pair r ≡ is_pair p
-one_length f (one a) (one b) m = refl
-one_length f (one a) (two c d) m = absurd m
-one_length f (two a b) (one c) m = absurd m
-one_length f (two a b) (two c d) m = refl
+one_length : (f : ℕ → ℕ → Bool) (p r : Image) → MatchAcross f p r → is_pair r ≡ is_pair p
+one_length f (Single a) (Single b) m = refl
+one_length f (Single a) (Double c d) m = absurd m
+one_length f (Double a b) (Single c) m = absurd m
+one_length f (Double a b) (Double c d) m = refl
 
-first_matches : (f : ℕ → ℕ → Bool) (p r : Piece) → MatchAcross f p r → f (first_tile p) (first_tile r) ≡ true
-first_matches f (one a) (one b) m = m
-first_matches f (one a) (two c d) m = absurd m
-first_matches f (two a b) (one c) m = absurd m
-first_matches f (two a b) (two c d) m = m.0
+first_matches : (f : ℕ → ℕ → Bool) (p r : Image) → MatchAcross f p r → f (first_tile p) (first_tile r) ≡ true
+first_matches f (Single a) (Single b) m = m
+first_matches f (Single a) (Double c d) m = absurd m
+first_matches f (Double a b) (Single c) m = absurd m
+first_matches f (Double a b) (Double c d) m = m.0
 
-last_matches : (f : ℕ → ℕ → Bool) (p r : Piece) → MatchAcross f p r → f (last_tile p) (last_tile r) ≡ true
-last_matches f (one a) (one b) m = m
-last_matches f (one a) (two c d) m = absurd m
-last_matches f (two a b) (one c) m = absurd m
-last_matches f (two a b) (two c d) m = m.1
+last_matches : (f : ℕ → ℕ → Bool) (p r : Image) → MatchAcross f p r → f (last_tile p) (last_tile r) ≡ true
+last_matches f (Single a) (Single b) m = m
+last_matches f (Single a) (Double c d) m = absurd m
+last_matches f (Double a b) (Single c) m = absurd m
+last_matches f (Double a b) (Double c d) m = m.1
 
-module _ (im : List Piece) (m1 m2 c1 c2 : ℕ → ℕ → Bool)
+module _ (im : List Image) (m1 m2 c1 c2 : ℕ → ℕ → Bool)
     (joined : (i j : ℕ) → i < length im → j < length im → c1 i j ≡ true → m1 (last_tile (piece_at im i)) (first_tile (piece_at im j)) ≡ true)
     (stacked : (i j : ℕ) → i < length im → j < length im → c2 i j ≡ true → MatchAcross m2 (piece_at im i) (piece_at im j))
     (blocks : (i : ℕ) → i < length im → is_pair (piece_at im i) ≡ true → m1 (first_tile (piece_at im i)) (last_tile (piece_at im i)) ≡ true) where
@@ -92,9 +94,9 @@ module _ (im : List Piece) (m1 m2 c1 c2 : ℕ → ℕ → Bool)
   between (i ∷ is) [] l k h = absurd h
   between (i ∷ is) (j ∷ js) l k h = (joined i j l.0 k.0 h.0, between is js l.1 k.1 h.1)
 
-  single_last : (p : Piece) → is_pair p ≡ false → last_tile p ≡ first_tile p
-  single_last (one a) e = refl
-  single_last (two a b) e = absurd cc
+  single_last : (p : Image) → is_pair p ≡ false → last_tile p ≡ first_tile p
+  single_last (Single a) e = refl
+  single_last (Double a b) e = absurd cc
 
   single_lasts : (q : List ℕ) → IsEvenLine im false q → lasts im q ≡ firsts im q
   single_lasts [] e = refl

@@ -1,6 +1,8 @@
 -- Parts of valid rectangles.
 use Rattle.std.proofs.Common.{arith, ◌≡◌, ℕ, suc, ◌+◌, ◌-◌, ◌*◌, ◌<◌, ◌≤◌, Bool, refl, sym, ◌∙◌, subst}
-use Rattle.wt_grid.specs.Grid.{Grid, cell, IsGrid, Axis, one, two, along, across, at, grid_of}
+use Rattle.wt_grid.specs.declared.axis.Axis.TheVariants.{One, Two}
+use Rattle.wt_grid.specs.declared.axis.Axis.{Axis}
+use Rattle.wt_grid.specs.Grid.{Grid, cell, IsGrid, along, across, at, grid_of}
 use Rattle.wt_grid.proofs.Bridge.{length-listed, cell_of}
 use Rattle.wt_grid.specs.Parts.{part, part_along, core, AllBelow, IsValid, IsWindow}
 
@@ -14,17 +16,17 @@ pub below_part : (n : ℕ) (g : Grid) (x y w h : ℕ) → AllBelow n g → x + w
 below_part n g x y w h b lw lh i j li lj = rw (at_part g x y w h i j li lj) (b (x + i) (y + j) (omega arith) (omega arith))
 
 pub valid_part : (m : Axis → ℕ → ℕ → Bool) (g : Grid) (x y w h : ℕ) → IsValid m g → x + w ≤ g.width → y + h ≤ g.height → IsValid m (part g x y w h)
-valid_part m g x y w h v lw lh one i j li lj =
+valid_part m g x y w h v lw lh One i j li lj =
     let next : x + suc i ≡ suc (x + i) = omega arith in
-    rw (at_part g x y w h i j (omega arith) lj, at_part g x y w h (suc i) j li lj, next) (v one (x + i) (y + j) (omega arith) (omega arith))
-valid_part m g x y w h v lw lh two i j li lj =
+    rw (at_part g x y w h i j (omega arith) lj, at_part g x y w h (suc i) j li lj, next) (v One (x + i) (y + j) (omega arith) (omega arith))
+valid_part m g x y w h v lw lh Two i j li lj =
     let next : y + suc i ≡ suc (y + i) = omega arith in
-    rw (at_part g x y w h j i lj (omega arith), at_part g x y w h j (suc i) lj li, next) (v two (y + i) (x + j) (omega arith) (omega arith))
+    rw (at_part g x y w h j i lj (omega arith), at_part g x y w h j (suc i) lj li, next) (v Two (y + i) (x + j) (omega arith) (omega arith))
 
 -- The window round a pair of a valid rectangle.
 pub window_at : (n : ℕ) (m : Axis → ℕ → ℕ → Bool) (axis : Axis) (g : Grid) (i j r : ℕ) → AllBelow n g → IsValid m g → i + (r + r + 2) ≤ along axis g → j + (r + r + 1) ≤ across axis g
     → IsWindow n m axis (at axis g (i + r) (j + r)) (at axis g (suc (i + r)) (j + r)) r (part_along axis g i j (r + r + 2) (r + r + 1))
-window_at n m one g i j r b v li lj = record {
+window_at n m One g i j r b v li lj = record {
   grid = grid_grid (r + r + 2) (r + r + 1) (λ x y. cell g (i + x) (j + y)) (omega arith) (omega arith);
   long = refl;
   wide = refl;
@@ -33,7 +35,7 @@ window_at n m one g i j r b v li lj = record {
   first = at_part g i j (r + r + 2) (r + r + 1) r r (omega arith) (omega arith);
   second = let next : i + suc r ≡ suc (i + r) = omega arith in at_part g i j (r + r + 2) (r + r + 1) (suc r) r (omega arith) (omega arith) ∙ rw next refl;
 }
-window_at n m two g i j r b v li lj = record {
+window_at n m Two g i j r b v li lj = record {
   grid = grid_grid (r + r + 1) (r + r + 2) (λ x y. cell g (j + x) (i + y)) (omega arith) (omega arith);
   long = refl;
   wide = refl;
@@ -45,16 +47,16 @@ window_at n m two g i j r b v li lj = record {
 
 -- A cell of the core, by lines.
 pub at_core : (axis : Axis) (r : ℕ) (g : Grid) (i j : ℕ) → i < along axis (core r g) → j < across axis (core r g) → at axis (core r g) i j ≡ at axis g (r + i) (r + j)
-at_core one r g i j li lj = at_part g r r (g.width - (r + r)) (g.height - (r + r)) i j li lj
-at_core two r g i j li lj = at_part g r r (g.width - (r + r)) (g.height - (r + r)) j i lj li
+at_core One r g i j li lj = at_part g r r (g.width - (r + r)) (g.height - (r + r)) i j li lj
+at_core Two r g i j li lj = at_part g r r (g.width - (r + r)) (g.height - (r + r)) j i lj li
 
 pub along_core : (axis : Axis) (r : ℕ) (g : Grid) → along axis (core r g) ≡ along axis g - (r + r)
-along_core one r g = refl
-along_core two r g = refl
+along_core One r g = refl
+along_core Two r g = refl
 
 pub across_core : (axis : Axis) (r : ℕ) (g : Grid) → across axis (core r g) ≡ across axis g - (r + r)
-across_core one r g = refl
-across_core two r g = refl
+across_core One r g = refl
+across_core Two r g = refl
 
 -- Each pair in a core has its window of a radius up to the core's.
 pub core_window : (n : ℕ) (m : Axis → ℕ → ℕ → Bool) (axis : Axis) (g : Grid) (i j r s : ℕ) → AllBelow n g → IsValid m g → s ≤ r
@@ -82,8 +84,8 @@ core_valid m r g v axis i j li lj =
     rw (at_core axis r g i j (omega arith) lj, at_core axis r g (suc i) j li lj, k) (v axis (r + i) (r + j) (omega arith) (omega arith))
 
 at_below : (axis : Axis) (n : ℕ) (g : Grid) → AllBelow n g → (i j : ℕ) → i < along axis g → j < across axis g → at axis g i j < n
-at_below one n g b i j li lj = b i j li lj
-at_below two n g b i j li lj = b j i lj li
+at_below One n g b i j li lj = b i j li lj
+at_below Two n g b i j li lj = b j i lj li
 
 pub core_below : (axis : Axis) (n r : ℕ) (g : Grid) → AllBelow n g → (i j : ℕ) → i < along axis (core r g) → j < across axis (core r g) → at axis (core r g) i j < n
 core_below axis n r g b i j li lj =

@@ -1,15 +1,20 @@
 -- The law of desubstitution on rectangles: exactly one coarse rectangle, and it is valid.
 use Rattle.std.proofs.Common.{arith, ◌≡◌, ◌≤◌, ◌<◌, ◌+◌, ◌*◌, ◌/◌, ◌%◌, ℕ, zero, suc, List, [], ◌∷◌, length, get_or, Some, slice_get, Bool, true, refl, sym, ◌∙◌, ap, inl, inr, subst}
+use Rattle.wt_grid.specs.Axes.{other}
+use Rattle.wt_grid.specs.declared.image.Image.TheVariants.{One as Single, Two as Double}
+use Rattle.wt_grid.specs.declared.image.Image.{Image}
+use Rattle.wt_grid.specs.declared.axis.Side.{Side}
+use Rattle.wt_grid.specs.declared.axis.Axis.TheVariants.{One, Two}
+use Rattle.wt_grid.specs.declared.axis.Axis.{Axis}
 use Rattle.std.proofs.lemmas.List.{ext_get_or}
 use Rattle.std.proofs.Math.Nat.{div-lt_iff_lt-mul}
-use Rattle.wt_grid.specs.Lines.{Piece, one, two, IsGood, IsImage, Singles, Pairs}
-use Rattle.wt_grid.specs.Grid.{Grid, cell, IsGrid, Axis, along, across, at, listed, lines}
-use Rattle.wt_grid.specs.Grid.{one as first_axis, two as second_axis}
+use Rattle.wt_grid.specs.Lines.{IsGood, IsImage, Singles, Pairs}
+use Rattle.wt_grid.specs.Grid.{Grid, cell, IsGrid, along, across, at, listed, lines}
 use Rattle.wt_grid.proofs.Bridge.{length-listed, get_or-listed}
 use Rattle.wt_grid.proofs.Coarse.{first, last, MatchAcross, coarse_field}
 use Rattle.wt_grid.specs.Images.{LineBelow, LinesBelow}
-use Rattle.wt_grid.specs.Cuts.{Side, cut, table}
-use Rattle.wt_grid.specs.Parts.{other, AllBelow, IsValid}
+use Rattle.wt_grid.specs.Cuts.{cut, table}
+use Rattle.wt_grid.specs.Parts.{AllBelow, IsValid}
 use Rattle.wt_grid.proofs.Law.{some_coarse, one_coarse, cut_field, cut_length, cut_long, coarse_grid}
 use Rattle.wt_grid.proofs.Grids.{long_lines, length_lines, filled_long, field_lines, lines_field}
 
@@ -41,8 +46,8 @@ line_cell axis g i j li lj =
     ∙ get_or-listed (across axis g) j (λ j. at axis g i j) 0 lj
 
 pub wide_along : (axis : Axis) (g : Grid) → IsGrid g → 1 ≤ along axis g
-wide_along first_axis g i = i.wide
-wide_along second_axis g i = i.high
+wide_along One g i = i.wide
+wide_along Two g i = i.high
 
 pub same_lines : (axis : Axis) (g h : Grid) → IsGrid g → IsGrid h → lines axis g ≡ lines axis h → g ≡ h
 same_lines axis g h ig ih e =
@@ -52,8 +57,8 @@ same_lines axis g h ig ih e =
   where
     by_axis : (axis : Axis) (g h : Grid) → IsGrid g → IsGrid h → along axis g ≡ along axis h → across axis g ≡ across axis h
         → ((i j : ℕ) → i < along axis g → j < across axis g → at axis g i j ≡ at axis h i j) → g ≡ h
-    by_axis first_axis g h ig ih n m e = same_cells g h ig ih n m e
-    by_axis second_axis g h ig ih n m e = same_cells g h ig ih m n (λ x y lx ly. e y x ly lx)
+    by_axis One g h ig ih n m e = same_cells g h ig ih n m e
+    by_axis Two g h ig ih n m e = same_cells g h ig ih m n (λ x y lx ly. e y x ly lx)
 
 -- Each coarse tile has an image.
 some_place : {A : Type 0} (xs : List A) (i : ℕ) (x : A) → slice_get xs i ≡ Some x → i < length xs
@@ -61,18 +66,18 @@ some_place [] i x e = absurd (cc e)
 some_place (y ∷ xs) zero x e = omega arith
 some_place (y ∷ xs) (suc i) x e = let r = some_place xs i x e in omega arith
 
-in_singles : (im : List Piece) (q u : List ℕ) → Singles im q u → LineBelow (length im) q
+in_singles : (im : List Image) (q u : List ℕ) → Singles im q u → LineBelow (length im) q
 in_singles im [] u s = tt
 in_singles im (i ∷ is) [] s = absurd s
-in_singles im (i ∷ is) (a ∷ as') s = (some_place im i (one a) s.0, in_singles im is as' s.1)
+in_singles im (i ∷ is) (a ∷ as') s = (some_place im i (Single a) s.0, in_singles im is as' s.1)
 
-in_pairs : (im : List Piece) (q u v : List ℕ) → Pairs im q u v → LineBelow (length im) q
+in_pairs : (im : List Image) (q u v : List ℕ) → Pairs im q u v → LineBelow (length im) q
 in_pairs im [] u v s = tt
 in_pairs im (i ∷ is) [] v s = absurd s
 in_pairs im (i ∷ is) (a ∷ as') [] s = absurd s
-in_pairs im (i ∷ is) (a ∷ as') (b ∷ bs) s = (some_place im i (two a b) s.0, in_pairs im is as' bs s.1)
+in_pairs im (i ∷ is) (a ∷ as') (b ∷ bs) s = (some_place im i (Double a b) s.0, in_pairs im is as' bs s.1)
 
-pub in_image : (im : List Piece) (qs ls : List (List ℕ)) → IsImage im qs ls → LinesBelow (length im) qs
+pub in_image : (im : List Image) (qs ls : List (List ℕ)) → IsImage im qs ls → LinesBelow (length im) qs
 in_image im [] ls i = tt
 in_image im (q ∷ qs) [] i = absurd i
 in_image im (q ∷ qs) (u ∷ []) i = (in_singles im q u i.0, in_image im qs [] i.1)
@@ -100,13 +105,13 @@ at_below axis n g h i j li lj =
     omega arith
 
 pub below_lines : (axis : Axis) (n : ℕ) (g : Grid) → LinesBelow n (lines axis g) → AllBelow n g
-below_lines first_axis n g h = λ x y lx ly. at_below first_axis n g h x y lx ly
-below_lines second_axis n g h = λ x y lx ly. at_below second_axis n g h y x ly lx
+below_lines One n g h = λ x y lx ly. at_below One n g h x y lx ly
+below_lines Two n g h = λ x y lx ly. at_below Two n g h y x ly lx
 
-module _ (axis : Axis) (side : Side) (allows fine coarse : Axis → ℕ → ℕ → Bool) (marker : ℕ → Bool) (im : List Piece)
+module _ (axis : Axis) (side : Side) (allows fine coarse : Axis → ℕ → ℕ → Bool) (marker : ℕ → Bool) (im : List Image)
     (good : IsGood (table side (allows axis) (allows (other axis)) marker im))
-    (joins : (i j : ℕ) (p r : Piece) → slice_get im i ≡ Some p → slice_get im j ≡ Some r → fine axis (last p) (first r) ≡ true → coarse axis i j ≡ true)
-    (stacks : (i j : ℕ) (p r : Piece) → slice_get im i ≡ Some p → slice_get im j ≡ Some r → MatchAcross (fine (other axis)) p r → coarse (other axis) i j ≡ true) where
+    (joins : (i j : ℕ) (p r : Image) → slice_get im i ≡ Some p → slice_get im j ≡ Some r → fine axis (last p) (first r) ≡ true → coarse axis i j ≡ true)
+    (stacks : (i j : ℕ) (p r : Image) → slice_get im i ≡ Some p → slice_get im j ≡ Some r → MatchAcross (fine (other axis)) p r → coarse (other axis) i j ≡ true) where
   -- the coarse rectangle of a core
   pub some_grid : (c : Grid) → IsValid allows c → IsValid fine c → 3 ≤ along axis c → 1 ≤ across axis c
       → (q : Grid) × IsGrid q × AllBelow (length im) q × IsImage im (lines axis q) (cut side marker (lines axis c)) × IsValid coarse q

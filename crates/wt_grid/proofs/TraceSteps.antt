@@ -1,12 +1,15 @@
 -- Runs of cells are followed from a coarse rectangle to the one that it was made of.
 use Rattle.std.proofs.Common.{arith, ◌≡◌, ◌≤◌, ◌<◌, ◌+◌, ℕ, zero, suc, List, [], ◌∷◌, ◌++◌, length, length-append, map, take, drop, get_or, Bool, true, false, cond, refl, sym, ap, ◌∙◌}
+use Rattle.wt_grid.specs.Axes.{other}
+use Rattle.wt_grid.specs.declared.image.Image.{Image}
+use Rattle.wt_grid.specs.declared.axis.Axis.TheVariants.{One, Two}
+use Rattle.wt_grid.specs.declared.axis.Axis.{Axis}
 use Rattle.std.specs.List.{flat_map}
 use Rattle.std.proofs.lemmas.List.{drop-append-le, take-append-le, get_or-append-add, get_or_append_left, length-drop}
 use Rattle.std.proofs.Math.Seq.{drop-append-add}
-use Rattle.wt_grid.specs.Lines.{Piece, IsImage, AllLong}
-use Rattle.wt_grid.specs.Grid.{Grid, IsGrid, Axis, along, across, at, lines}
-use Rattle.wt_grid.specs.Grid.{one as first_axis, two as second_axis}
-use Rattle.wt_grid.specs.Parts.{other, core}
+use Rattle.wt_grid.specs.Lines.{IsImage, AllLong}
+use Rattle.wt_grid.specs.Grid.{Grid, IsGrid, along, across, at, lines}
+use Rattle.wt_grid.specs.Parts.{core}
 use Rattle.wt_grid.specs.Widths.{Stage, next_row, last_row}
 use Rattle.wt_grid.specs.Images.{piece_at, first_tile, firsts, is_double, line_image, image_lines, IsEven}
 use Rattle.wt_grid.specs.Traces.{segment, cells_at, piece_tiles, IsStageOf, IsTraced}
@@ -20,16 +23,16 @@ use Rattle.wt_grid.proofs.Traces.{listed_map, listed_same, segment_lines, image_
 -- the other axis reads a rectangle the other way
 
 pub at_other : (axis : Axis) (g : Grid) (i j : ℕ) → at (other axis) g i j ≡ at axis g j i
-at_other first_axis g i j = refl
-at_other second_axis g i j = refl
+at_other One g i j = refl
+at_other Two g i j = refl
 
 pub along_other : (axis : Axis) (g : Grid) → along (other axis) g ≡ across axis g
-along_other first_axis g = refl
-along_other second_axis g = refl
+along_other One g = refl
+along_other Two g = refl
 
 pub across_other : (axis : Axis) (g : Grid) → across (other axis) g ≡ along axis g
-across_other first_axis g = refl
-across_other second_axis g = refl
+across_other One g = refl
+across_other Two g = refl
 
 pub segment_core : (axis : Axis) (r : ℕ) (g : Grid) (i j n : ℕ) → i + n ≤ along axis (core r g) → j < across axis (core r g) → segment axis (core r g) i j n ≡ segment axis g (r + i) (r + j) n
 segment_core axis r g i j n le lt =
@@ -55,25 +58,25 @@ long_take m zero ls h = tt
 long_take m (suc k) [] h = tt
 long_take m (suc k) (u ∷ ls) h = (h.0, long_take m k ls h.1)
 
-even_drop : (im : List Piece) (k : ℕ) (qs : List (List ℕ)) → IsEven im qs → IsEven im (drop k qs)
+even_drop : (im : List Image) (k : ℕ) (qs : List (List ℕ)) → IsEven im qs → IsEven im (drop k qs)
 even_drop im zero qs h = h
 even_drop im (suc k) [] h = tt
 even_drop im (suc k) (q ∷ qs) h = even_drop im k qs h.1
 
-even_take : (im : List Piece) (k : ℕ) (qs : List (List ℕ)) → IsEven im qs → IsEven im (take k qs)
+even_take : (im : List Image) (k : ℕ) (qs : List (List ℕ)) → IsEven im qs → IsEven im (take k qs)
 even_take im zero qs h = tt
 even_take im (suc k) [] h = tt
 even_take im (suc k) (q ∷ qs) h = (h.0, even_take im k qs h.1)
 
 -- what a stage makes of a row
-row_along : (im : List Piece) (s : Stage) (row : List ℕ) → IsStageOf true im s → next_row s row ≡ flat_map (λ t. piece_tiles (piece_at im t)) row
+row_along : (im : List Image) (s : Stage) (row : List ℕ) → IsStageOf true im s → next_row s row ≡ flat_map (λ t. piece_tiles (piece_at im t)) row
 row_along im s row h = ap (λ (b : Bool). cond b (flat_map s.pieces row) (map s.first row)) h.axis ∙ go row
   where
     go : (row : List ℕ) → flat_map s.pieces row ≡ flat_map (λ t. piece_tiles (piece_at im t)) row
     go [] = refl
     go (t ∷ ts) = ap (λ (xs : List ℕ). xs ++ flat_map s.pieces ts) (h.pieces t) ∙ ap (λ (ys : List ℕ). piece_tiles (piece_at im t) ++ ys) (go ts)
 
-row_across : (im : List Piece) (s : Stage) (row : List ℕ) → IsStageOf false im s → next_row s row ≡ map (λ t. first_tile (piece_at im t)) row
+row_across : (im : List Image) (s : Stage) (row : List ℕ) → IsStageOf false im s → next_row s row ≡ map (λ t. first_tile (piece_at im t)) row
 row_across im s row h = ap (λ (b : Bool). cond b (flat_map s.pieces row) (map s.first row)) h.axis ∙ go row
   where
     go : (row : List ℕ) → map s.first row ≡ map (λ t. first_tile (piece_at im t)) row
@@ -81,11 +84,11 @@ row_across im s row h = ap (λ (b : Bool). cond b (flat_map s.pieces row) (map s
     go (t ∷ ts) = let a = h.first t in let r = go ts in cc
 
 -- the first line of a block
-first_of_line : (im : List Piece) (q : List ℕ) (ls : List (List ℕ)) (b : Bool) → is_double im q ≡ b → get_or (line_image im q ++ ls) 0 [] ≡ firsts im q
+first_of_line : (im : List Image) (q : List ℕ) (ls : List (List ℕ)) (b : Bool) → is_double im q ≡ b → get_or (line_image im q ++ ls) 0 [] ≡ firsts im q
 first_of_line im q ls true e = rw e refl
 first_of_line im q ls false e = rw e refl
 
-first_of_block : (im : List Piece) (qs : List (List ℕ)) (j : ℕ) → j < length qs → get_or (image_lines im qs) (length (image_lines im (take j qs))) [] ≡ firsts im (get_or qs j [])
+first_of_block : (im : List Image) (qs : List (List ℕ)) (j : ℕ) → j < length qs → get_or (image_lines im qs) (length (image_lines im (take j qs))) [] ≡ firsts im (get_or qs j [])
 first_of_block im [] j lt = absurd (omega arith)
 first_of_block im (q ∷ qs) zero lt = first_of_line im q (image_lines im qs) (is_double im q) refl
 first_of_block im (q ∷ qs) (suc j) lt =
@@ -93,11 +96,11 @@ first_of_block im (q ∷ qs) (suc j) lt =
     ap (λ (k : ℕ). get_or (line_image im q ++ image_lines im qs) k []) e
     ∙ (get_or-append-add (line_image im q) (image_lines im qs) (length (image_lines im (take j qs))) [] ∙ first_of_block im qs j (omega arith))
 
-line_some : (im : List Piece) (q : List ℕ) (b : Bool) → is_double im q ≡ b → 1 ≤ length (line_image im q)
+line_some : (im : List Image) (q : List ℕ) (b : Bool) → is_double im q ≡ b → 1 ≤ length (line_image im q)
 line_some im q true e = rw e (omega arith)
 line_some im q false e = rw e (omega arith)
 
-block_within : (im : List Piece) (qs : List (List ℕ)) (j : ℕ) → j < length qs → length (image_lines im (take j qs)) < length (image_lines im qs)
+block_within : (im : List Image) (qs : List (List ℕ)) (j : ℕ) → j < length qs → length (image_lines im (take j qs)) < length (image_lines im qs)
 block_within im [] j lt = absurd (omega arith)
 block_within im (q ∷ qs) zero lt = let s = line_some im q (is_double im q) refl in let e = length-append (line_image im q) (image_lines im qs) in omega arith
 block_within im (q ∷ qs) (suc j) lt =
@@ -107,7 +110,7 @@ block_within im (q ∷ qs) (suc j) lt =
     omega arith
 
 -- A rectangle g with a core of radius r, and a coarse rectangle whose image stands in the lines of that core.
-module _ (axis : Axis) (im : List Piece) (g q : Grid) (r : ℕ) (L : List (List ℕ)) (iq : IsGrid q)
+module _ (axis : Axis) (im : List Image) (g q : Grid) (r : ℕ) (L : List (List ℕ)) (iq : IsGrid q)
     (wide : 1 ≤ across axis (core r g)) (stands : StandsIn L (lines axis (core r g))) (image : IsImage im (lines axis q) L) (long : AllLong (across axis (core r g)) L) where
   c : Grid
   c = core r g

@@ -1,11 +1,16 @@
 -- A run of coarse cells stands for a run of cells of the rectangle below.
 use Rattle.std.proofs.Common.{arith, ◌≡◌, ◌≤◌, ◌<◌, ◌+◌, ◌-◌, ℕ, zero, suc, List, [], ◌∷◌, ◌++◌, append_assoc, length, length-append, map, take, drop, get_or, Bool, true, false, refl, sym, ap, ◌∙◌}
+use Rattle.wt_grid.specs.declared.image.Image.TheVariants.{One as Single, Two as Double}
+use Rattle.wt_grid.specs.declared.image.Image.{Image}
+use Rattle.wt_grid.specs.declared.axis.Side.TheVariants.{After, Before}
+use Rattle.wt_grid.specs.declared.axis.Side.{Side}
+use Rattle.wt_grid.specs.declared.axis.Axis.{Axis}
 use Rattle.std.specs.List.{flat_map}
 use Rattle.std.proofs.lemmas.List.{take-append-drop, get_or-map}
 use Rattle.std.proofs.Math.Seq.{drop-append_seam, take-append_seam}
-use Rattle.wt_grid.specs.Lines.{Piece, one, two, AllLong, is_marker_line, cut_end}
-use Rattle.wt_grid.specs.Cuts.{Side, after, before, cut, cut_front, cut_lines, backwards}
-use Rattle.wt_grid.specs.Grid.{Grid, Axis, along, across, at, listed, lines}
+use Rattle.wt_grid.specs.Lines.{AllLong, is_marker_line, cut_end}
+use Rattle.wt_grid.specs.Cuts.{cut, cut_front, cut_lines, backwards}
+use Rattle.wt_grid.specs.Grid.{Grid, along, across, at, listed, lines}
 use Rattle.wt_grid.specs.Images.{piece_at, first_tile, last_tile, is_pair, firsts, lasts, is_double, line_image, image_lines, IsEvenLine, IsEven}
 use Rattle.wt_grid.specs.Traces.{segment, cells_at, piece_tiles}
 use Rattle.wt_grid.proofs.Bridge.{get_or-listed}
@@ -52,30 +57,30 @@ map_append : (h : List ℕ → ℕ) (xs ys : List (List ℕ)) → map h (xs ++ y
 map_append h [] ys = refl
 map_append h (x ∷ xs) ys = ap (λ (zs : List ℕ). h x ∷ zs) (map_append h xs ys)
 
-first_at : (im : List Piece) (q : List ℕ) (j : ℕ) → j < length q → get_or (firsts im q) j 0 ≡ first_tile (piece_at im (get_or q j 0))
+first_at : (im : List Image) (q : List ℕ) (j : ℕ) → j < length q → get_or (firsts im q) j 0 ≡ first_tile (piece_at im (get_or q j 0))
 first_at im q j lt = get_or-map (λ i. first_tile (piece_at im i)) q j 0 0 lt
 
-last_at : (im : List Piece) (q : List ℕ) (j : ℕ) → j < length q → get_or (lasts im q) j 0 ≡ last_tile (piece_at im (get_or q j 0))
+last_at : (im : List Image) (q : List ℕ) (j : ℕ) → j < length q → get_or (lasts im q) j 0 ≡ last_tile (piece_at im (get_or q j 0))
 last_at im q j lt = get_or-map (λ i. last_tile (piece_at im i)) q j 0 0 lt
 
-even_get : (im : List Piece) (b : Bool) (q : List ℕ) (j : ℕ) → IsEvenLine im b q → j < length q → is_pair (piece_at im (get_or q j 0)) ≡ b
+even_get : (im : List Image) (b : Bool) (q : List ℕ) (j : ℕ) → IsEvenLine im b q → j < length q → is_pair (piece_at im (get_or q j 0)) ≡ b
 even_get im b [] j e lt = absurd (omega arith)
 even_get im b (i ∷ is) zero e lt = e.0
 even_get im b (i ∷ is) (suc j) e lt = even_get im b is j e.1 (omega arith)
 
-tiles_of_pair : (p : Piece) → is_pair p ≡ true → first_tile p ∷ last_tile p ∷ [] ≡ piece_tiles p
-tiles_of_pair (one a) e = absurd cc
-tiles_of_pair (two a b) e = refl
+tiles_of_pair : (p : Image) → is_pair p ≡ true → first_tile p ∷ last_tile p ∷ [] ≡ piece_tiles p
+tiles_of_pair (Single a) e = absurd cc
+tiles_of_pair (Double a b) e = refl
 
-tiles_of_one : (p : Piece) → is_pair p ≡ false → first_tile p ∷ [] ≡ piece_tiles p
-tiles_of_one (one a) e = refl
-tiles_of_one (two a b) e = absurd cc
+tiles_of_one : (p : Image) → is_pair p ≡ false → first_tile p ∷ [] ≡ piece_tiles p
+tiles_of_one (Single a) e = refl
+tiles_of_one (Double a b) e = absurd cc
 
-line_cells : (im : List Piece) (q : List ℕ) (j : ℕ) (b : Bool) → is_double im q ≡ b → IsEvenLine im b q → j < length q → cells_at j (line_image im q) ≡ piece_tiles (piece_at im (get_or q j 0))
+line_cells : (im : List Image) (q : List ℕ) (j : ℕ) (b : Bool) → is_double im q ≡ b → IsEvenLine im b q → j < length q → cells_at j (line_image im q) ≡ piece_tiles (piece_at im (get_or q j 0))
 line_cells im q j true e h lt = rw e (rw (first_at im q j lt, last_at im q j lt) (tiles_of_pair (piece_at im (get_or q j 0)) (even_get im true q j h lt)))
 line_cells im q j false e h lt = rw e (rw (first_at im q j lt) (tiles_of_one (piece_at im (get_or q j 0)) (even_get im false q j h lt)))
 
-pub image_cells : (im : List Piece) (m j : ℕ) (qs : List (List ℕ)) → j < m → AllLong m qs → IsEven im qs → cells_at j (image_lines im qs) ≡ flat_map (λ t. piece_tiles (piece_at im t)) (cells_at j qs)
+pub image_cells : (im : List Image) (m j : ℕ) (qs : List (List ℕ)) → j < m → AllLong m qs → IsEven im qs → cells_at j (image_lines im qs) ≡ flat_map (λ t. piece_tiles (piece_at im t)) (cells_at j qs)
 image_cells im m j [] lt l e = refl
 image_cells im m j (q ∷ qs) lt l e =
     let n : j < length q = (let h : length q ≡ m = l.0 in omega arith) in
@@ -83,7 +88,7 @@ image_cells im m j (q ∷ qs) lt l e =
     ∙ (ap (λ (xs : List ℕ). xs ++ cells_at j (image_lines im qs)) (line_cells im q j (is_double im q) refl e.0 n)
     ∙ ap (λ (ys : List ℕ). piece_tiles (piece_at im (get_or q j 0)) ++ ys) (image_cells im m j qs lt l.1 e.1))
 
-pub image_lines_append : (im : List Piece) (xs ys : List (List ℕ)) → image_lines im (xs ++ ys) ≡ image_lines im xs ++ image_lines im ys
+pub image_lines_append : (im : List Image) (xs ys : List (List ℕ)) → image_lines im (xs ++ ys) ≡ image_lines im xs ++ image_lines im ys
 image_lines_append im [] ys = refl
 image_lines_append im (x ∷ xs) ys = ap (λ (zs : List (List ℕ)). line_image im x ++ zs) (image_lines_append im xs ys) ∙ sym (append_assoc (line_image im x) (image_lines im xs) (image_lines im ys))
 
@@ -91,7 +96,7 @@ middle : {A : Type 0} (xs ys zs : List A) → take (length ys) (drop (length xs)
 middle xs ys zs = ap (take (length ys)) (drop-append_seam xs (ys ++ zs)) ∙ take-append_seam ys zs
 
 -- the lines of a run of blocks, among those of all blocks
-pub run_image : (im : List Piece) (qs : List (List ℕ)) (k n : ℕ) → take (length (image_lines im (take n (drop k qs)))) (drop (length (image_lines im (take k qs))) (image_lines im qs)) ≡ image_lines im (take n (drop k qs))
+pub run_image : (im : List Image) (qs : List (List ℕ)) (k n : ℕ) → take (length (image_lines im (take n (drop k qs)))) (drop (length (image_lines im (take k qs))) (image_lines im qs)) ≡ image_lines im (take n (drop k qs))
 run_image im qs k n =
     let a = take k qs in
     let b = take n (drop k qs) in
@@ -101,7 +106,7 @@ run_image im qs k n =
     ap (image_lines im) e ∙ (image_lines_append im a (b ++ c) ∙ ap (λ (ys : List (List ℕ)). image_lines im a ++ ys) (image_lines_append im b c)) in
     ap (λ (ys : List (List ℕ)). take (length (image_lines im b)) (drop (length (image_lines im a)) ys)) f ∙ middle (image_lines im a) (image_lines im b) (image_lines im c)
 
-pub run_fits : (im : List Piece) (qs : List (List ℕ)) (k n : ℕ) → length (image_lines im (take k qs)) + length (image_lines im (take n (drop k qs))) ≤ length (image_lines im qs)
+pub run_fits : (im : List Image) (qs : List (List ℕ)) (k n : ℕ) → length (image_lines im (take k qs)) + length (image_lines im (take n (drop k qs))) ≤ length (image_lines im qs)
 run_fits im qs k n =
     let a = take k qs in
     let b = take n (drop k qs) in
@@ -143,8 +148,8 @@ lines_in marker ls =
     (f.0, e.0, f.1 ∙ ap (λ (ys : List (List ℕ)). f.0 ++ ys) e.1)
 
 pub cut_in : (side : Side) (marker : ℕ → Bool) (ls : List (List ℕ)) → StandsIn (cut side marker ls) ls
-cut_in after marker ls = lines_in marker ls
-cut_in before marker ls =
+cut_in After marker ls = lines_in marker ls
+cut_in Before marker ls =
     let r = lines_in marker (backwards ls) in
     let c = cut_lines marker (backwards ls) in (
       backwards r.1,

@@ -1,7 +1,8 @@
 -- Vectors, read along either axis.
 use Rattle.std.proofs.Common.{arith, ◌≡◌, ◌+◌, ℕ, Bool, true, false, sym, ◌∙◌, ap}
-use Rattle.wt_grid.specs.Grid.{Grid, Axis, at}
-use Rattle.wt_grid.specs.Parts.{other}
+use Rattle.wt_grid.specs.Axes.{other}
+use Rattle.wt_grid.specs.declared.axis.Axis.{Axis}
+use Rattle.wt_grid.specs.Grid.{Grid, at}
 use Rattle.wt_grid.specs.Shifts.{HasVector}
 use Rattle.wt_grid.proofs.TraceSteps.{at_other, along_other, across_other}
 

@@ -1,6 +1,10 @@
 -- Border lines that no block holds.
 use Rattle.std.specs.Prelude.{ℕ, Bool, List, [], ◌∷◌, ◌++◌, map, if◌then◌else◌}
-use Rattle.wt_grid.specs.Lines.{Piece, one, two, Table, IsImage, is_marker_line, cut_end}
+use Rattle.wt_grid.specs.declared.image.Image.TheVariants.{One as Single, Two as Double}
+use Rattle.wt_grid.specs.declared.image.Image.{Image}
+use Rattle.wt_grid.specs.declared.axis.Side.TheVariants.{After, Before}
+use Rattle.wt_grid.specs.declared.axis.Side.{Side}
+use Rattle.wt_grid.specs.Lines.{Table, IsImage, is_marker_line, cut_end}
 
 -- in the opposite order
 abbrev pub backwards : {A : Type 0} → List A → List A
@@ -19,24 +23,19 @@ cut_front marker (u ∷ ls) = if is_marker_line marker u then ls else u ∷ ls
 abbrev pub cut_lines : (ℕ → Bool) → List (List ℕ) → List (List ℕ)
 cut_lines marker ls = cut_end marker (cut_front marker ls)
 
--- Where the markers stand: behind the first tile of a block, or before its last.
-pub data Side : Type 0 where
-  after : Side
-  before : Side
-
 -- the lines of whole blocks
 abbrev pub cut : Side → (ℕ → Bool) → List (List ℕ) → List (List ℕ)
-cut after marker ls = cut_lines marker ls
-cut before marker ls = backwards (cut_lines marker (backwards ls))
+cut After marker ls = cut_lines marker ls
+cut Before marker ls = backwards (cut_lines marker (backwards ls))
 
-abbrev pub flip : Piece → Piece
-flip (one a) = one a
-flip (two a b) = two b a
+abbrev pub flip : Image → Image
+flip (Single a) = Single a
+flip (Double a b) = Double b a
 
 -- what a step allows, read towards the markers
-abbrev pub table : Side → (ℕ → ℕ → Bool) → (ℕ → ℕ → Bool) → (ℕ → Bool) → List Piece → Table
-table after along across marker images = record { marker = marker; along = along; across = across; images = images }
-table before along across marker images = record { marker = marker; along = opposite along; across = across; images = map flip images }
+abbrev pub table : Side → (ℕ → ℕ → Bool) → (ℕ → ℕ → Bool) → (ℕ → Bool) → List Image → Table
+table After along across marker images = record { marker = marker; along = along; across = across; images = images }
+table Before along across marker images = record { marker = marker; along = opposite along; across = across; images = map flip images }
 
 abbrev pub all_but_last : List (List ℕ) → List (List ℕ)
 all_but_last [] = []
@@ -49,10 +48,10 @@ all_but_first (x ∷ xs) = xs
 
 -- coarse lines, without the one at the open end
 abbrev pub closed : Side → List (List ℕ) → List (List ℕ)
-closed after qs = all_but_last qs
-closed before qs = all_but_first qs
+closed After qs = all_but_last qs
+closed Before qs = all_but_first qs
 
 -- the coarse lines on one side of a run fill the lines there, up to the cut
-abbrev pub Fills : Side → (ℕ → Bool) → List Piece → List (List ℕ) → List (List ℕ) → List (List ℕ) → List (List ℕ) → Type 0
-Fills after marker images qa qb front back = IsImage images qa (cut_front marker front)
-Fills before marker images qa qb front back = IsImage images qb (backwards (cut_front marker (backwards back)))
+abbrev pub Fills : Side → (ℕ → Bool) → List Image → List (List ℕ) → List (List ℕ) → List (List ℕ) → List (List ℕ) → Type 0
+Fills After marker images qa qb front back = IsImage images qa (cut_front marker front)
+Fills Before marker images qa qb front back = IsImage images qb (backwards (cut_front marker (backwards back)))

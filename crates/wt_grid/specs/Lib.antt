@@ -1,3 +1,4 @@
+pub mod Axes
 pub mod First
 pub mod Order
 pub mod Pairs

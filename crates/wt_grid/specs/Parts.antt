@@ -1,10 +1,8 @@
 -- Parts of rectangles, and what is valid, said of lines along either axis.
 use Rattle.std.specs.Prelude.{◌≡◌, ℕ, suc, ◌+◌, ◌-◌, ◌<◌, Bool, true}
-use Rattle.wt_grid.specs.Grid.{Grid, cell, IsGrid, Axis, one, two, along, across, at, grid_of}
-
-abbrev pub other : Axis → Axis
-other one = two
-other two = one
+use Rattle.wt_grid.specs.declared.axis.Axis.TheVariants.{One, Two}
+use Rattle.wt_grid.specs.declared.axis.Axis.{Axis}
+use Rattle.wt_grid.specs.Grid.{Grid, cell, IsGrid, along, across, at, grid_of}
 
 -- w by h cells from (x, y) on
 abbrev pub part : Grid → ℕ → ℕ → ℕ → ℕ → Grid
@@ -12,8 +10,8 @@ part g x y w h = grid_of w h (λ i j. cell g (x + i) (y + j))
 
 -- n lines from line i on, m cells of each from cell j on
 abbrev pub part_along : Axis → Grid → ℕ → ℕ → ℕ → ℕ → Grid
-part_along one g i j n m = part g i j n m
-part_along two g i j n m = part g j i m n
+part_along One g i j n m = part g i j n m
+part_along Two g i j n m = part g j i m n
 
 -- without r lines on each side
 abbrev pub core : ℕ → Grid → Grid

@@ -1,6 +1,7 @@
 -- Rectangles and lines that repeat themselves at a distance.
 use Rattle.std.specs.Prelude.{◌≡◌, ℕ, ◌+◌, ◌<◌, Bool, if◌then◌else◌, List, [], ◌∷◌, drop}
-use Rattle.wt_grid.specs.Grid.{Grid, Axis, along, across, at}
+use Rattle.wt_grid.specs.declared.axis.Axis.{Axis}
+use Rattle.wt_grid.specs.Grid.{Grid, along, across, at}
 use Rattle.wt_grid.specs.Lines.{Shift}
 
 -- two lists agree as far as both go

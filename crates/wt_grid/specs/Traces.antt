@@ -1,7 +1,9 @@
 -- Runs of cells in coarse rectangles, followed down to the cells that they stand for.
 use Rattle.std.specs.Prelude.{◌≡◌, ℕ, ◌+◌, ◌<◌, ◌≤◌, Bool, List, [], ◌∷◌, length, map, slice_index}
-use Rattle.wt_grid.specs.Grid.{Grid, Axis, along, across, at, listed}
-use Rattle.wt_grid.specs.Lines.{Piece, one, two}
+use Rattle.wt_grid.specs.declared.image.Image.TheVariants.{One as Single, Two as Double}
+use Rattle.wt_grid.specs.declared.image.Image.{Image}
+use Rattle.wt_grid.specs.declared.axis.Axis.{Axis}
+use Rattle.wt_grid.specs.Grid.{Grid, along, across, at, listed}
 use Rattle.wt_grid.specs.Images.{piece_at, first_tile}
 use Rattle.wt_grid.specs.Widths.{Stage, last_row}
 
@@ -13,12 +15,12 @@ segment axis g i j n = listed n (λ k. at axis g (i + k) j)
 abbrev pub cells_at : ℕ → List (List ℕ) → List ℕ
 cells_at j ls = map (λ u. slice_index u j) ls
 
-abbrev pub piece_tiles : Piece → List ℕ
-piece_tiles (one a) = a ∷ []
-piece_tiles (two a b) = a ∷ b ∷ []
+abbrev pub piece_tiles : Image → List ℕ
+piece_tiles (Single a) = a ∷ []
+piece_tiles (Double a b) = a ∷ b ∷ []
 
 -- a stage gives each tile its piece
-pub record IsStageOf (b : Bool) (images : List Piece) (s : Stage) : Type 0 where
+pub record IsStageOf (b : Bool) (images : List Image) (s : Stage) : Type 0 where
   pub axis : s.is_along ≡ b
   pub pieces : (t : ℕ) → s.pieces t ≡ piece_tiles (piece_at images t)
   pub first : (t : ℕ) → s.first t ≡ first_tile (piece_at images t)

@@ -1,28 +1,25 @@
 -- The cells of an image are those that its lines are laid with.
 use Rattle.std.proofs.Common.{arith, ◌≡◌, ℕ, zero, suc, ◌+◌, ◌-◌, ◌*◌, ◌/◌, ◌%◌, ◌<◌, ◌≤◌, Bool, true, false, cond, List, [], ◌∷◌, ◌++◌, length, take, drop, map, get_or, refl, ap, sym, ◌∙◌, subst}
+use Rattle.wt_grid.specs.declared.image.Image.TheVariants.{One as Single, Two as Double}
+use Rattle.wt_grid.specs.declared.image.Image.{Image}
+use Rattle.wt_grid.specs.declared.axis.Axis.TheVariants.{One, Two}
+use Rattle.wt_grid.specs.declared.axis.Axis.{Axis}
 use Rattle.std.proofs.lemmas.Nat.{mul-add-lt, div-mul-add, mod-mul-add, div-add-mod'}
 use Rattle.std.proofs.lemmas.List.{length-map}
 use Rattle.std.proofs.Math.Seq.{take-add}
 use Rattle.std.specs.Prelude.{slice_range}
 use Rattle.std.proofs.Math.Nat.{div-lt_iff_lt-mul}
-use Rattle.wt_tile.specs.declared.tile.Axis.{Axis}
-use Rattle.wt_tile.specs.declared.tile.Axis.TheVariants.{One, Two}
-use Rattle.wt_tile.specs.Matching.{grid_axis}
-use Rattle.wt_grid.specs.Lines.{Piece, one, two}
 use Rattle.wt_grid.specs.Grid.{Grid, IsGrid, cell, along, across, at, listed, lines, grid_of, of_lines}
-use Rattle.wt_grid.specs.Grid.{Axis as GridAxis, one as first_axis, two as second_axis}
 use Rattle.wt_grid.specs.Parts.{part}
 use Rattle.wt_grid.specs.Images.{piece_at, first_tile, last_tile, is_pair, firsts, lasts, is_double, line_image, image_lines, image_grid}
 use Rattle.wt_grid.proofs.Bridge.{length-listed, get_or-listed, cell_of}
-use Rattle.wt_morphism.specs.declared.image.Image.{Image}
-use Rattle.wt_morphism.specs.declared.image.Image.TheVariants.{One as Single, Two as Double}
 use Rattle.wt_morphism.specs.declared.image.Morphism.{Morphism}
 use Rattle.wt_morphism.specs.declared.laid.Strand.{Strand}
-use Rattle.wt_morphism.specs.Images.{piece, pieces, image, image_at, is_two}
+use Rattle.wt_morphism.specs.Images.{piece, pieces, image, is_two}
 use Rattle.wt_morphism.specs.Strands.{strands, line_is_two, all_strands, tile_of, strand_cell, strand_at, turned, laid, laid_row, laid_index}
 
 -- the pieces of a table, tile by tile
-pub piece_of : (table : List Image) (tile : ℕ) → piece_at (map piece table) tile ≡ piece (image_at table tile)
+pub piece_of : (table : List Image) (tile : ℕ) → piece_at (map piece table) tile ≡ piece (piece_at table tile)
 piece_of [] tile = refl
 piece_of (i ∷ is) zero = refl
 piece_of (i ∷ is) (suc tile) = piece_of is tile
@@ -45,25 +42,25 @@ listed_map f g h (suc n) e =
 module _ (table : List Image) (a : ℕ → ℕ → ℕ) (m : ℕ) (some : 0 < m) where
   -- the line of an image, where it comes from line s.line
   abbrev line_of : Strand → List ℕ
-  line_of s = listed m (λ j. tile_of s.second (image_at table (a s.line j)))
+  line_of s = listed m (λ j. tile_of s.second (piece_at table (a s.line j)))
 
   abbrev doubles : ℕ → Bool
-  doubles i = is_pair (piece (image_at table (a i 0)))
+  doubles i = is_pair (piece (piece_at table (a i 0)))
 
   firsts_listed : (i : ℕ) (b : ℕ → ℕ) → ((j : ℕ) → b j ≡ a i j) → firsts (map piece table) (listed m b) ≡ line_of (record { line = i; second = false })
-  firsts_listed i b e = listed_map (λ t. first_tile (piece_at (map piece table) t)) b (λ j. tile_of false (image_at table (a i j))) m
-      (λ j. ap first_tile (piece_of table (b j)) ∙ (first_of (image_at table (b j)) ∙ ap (λ (t : ℕ). tile_of false (image_at table t)) (e j)))
+  firsts_listed i b e = listed_map (λ t. first_tile (piece_at (map piece table) t)) b (λ j. tile_of false (piece_at table (a i j))) m
+      (λ j. ap first_tile (piece_of table (b j)) ∙ (first_of (piece_at table (b j)) ∙ ap (λ (t : ℕ). tile_of false (piece_at table t)) (e j)))
 
   lasts_listed : (i : ℕ) (b : ℕ → ℕ) → ((j : ℕ) → b j ≡ a i j) → lasts (map piece table) (listed m b) ≡ line_of (record { line = i; second = true })
-  lasts_listed i b e = listed_map (λ t. last_tile (piece_at (map piece table) t)) b (λ j. tile_of true (image_at table (a i j))) m
-      (λ j. ap last_tile (piece_of table (b j)) ∙ (last_of (image_at table (b j)) ∙ ap (λ (t : ℕ). tile_of true (image_at table t)) (e j)))
+  lasts_listed i b e = listed_map (λ t. last_tile (piece_at (map piece table) t)) b (λ j. tile_of true (piece_at table (a i j))) m
+      (λ j. ap last_tile (piece_of table (b j)) ∙ (last_of (piece_at table (b j)) ∙ ap (λ (t : ℕ). tile_of true (piece_at table t)) (e j)))
 
   double_first : (n : ℕ) (b : ℕ → ℕ) → 0 < n → is_double (map piece table) (listed n b) ≡ is_pair (piece_at (map piece table) (b 0))
   double_first zero b lt = absurd (omega arith)
   double_first (suc n) b lt = refl
 
   double_listed : (i : ℕ) (b : ℕ → ℕ) → ((j : ℕ) → b j ≡ a i j) → is_double (map piece table) (listed m b) ≡ doubles i
-  double_listed i b e = double_first m b some ∙ (ap is_pair (piece_of table (b 0)) ∙ ap (λ (t : ℕ). is_pair (piece (image_at table t))) (e 0))
+  double_listed i b e = double_first m b some ∙ (ap is_pair (piece_of table (b 0)) ∙ ap (λ (t : ℕ). is_pair (piece (piece_at table t))) (e 0))
 
   line_laid : (d : Bool) (i : ℕ) (b : ℕ → ℕ) (rest : List (List ℕ)) (ss : List Strand) → ((j : ℕ) → b j ≡ a i j) → doubles i ≡ d → rest ≡ map line_of ss
       → line_image (map piece table) (listed m b) ++ rest
@@ -103,15 +100,15 @@ strands_within f i (suc n) zero lt = omega arith
 strands_within f i (suc n) (suc k) lt = second_within f i n (f i) k (omega arith) (λ d low. let r = strands_within f (i + 1) n d low in omega arith)
 
 module _ (m : Morphism) (p : Grid) (g : IsGrid p) where
-  abbrev axis : GridAxis
-  axis = grid_axis m.axis
+  abbrev axis : Axis
+  axis = m.axis
 
   abbrev all : List (List ℕ)
   all = image_lines (pieces m) (lines axis p)
 
-  across_some : (x : GridAxis) → 0 < across x p
-  across_some first_axis = omega (arith, g.high)
-  across_some second_axis = omega (arith, g.wide)
+  across_some : (x : Axis) → 0 < across x p
+  across_some One = omega (arith, g.high)
+  across_some Two = omega (arith, g.wide)
 
   abbrev line : Strand → List ℕ
   line s = listed (across axis p) (λ j. strand_cell m p s j)
@@ -170,12 +167,12 @@ abbrev morphism : Axis → List Image → Morphism
 morphism axis table = record { axis = axis; table = table }
 
 within : (axis : Axis) (table : List Image) (p : Grid) (g : IsGrid p) (x y : ℕ) → x < (image (morphism axis table) p).width → y < (image (morphism axis table) p).height
-    → ((turned axis x y).0 < length (all_strands (morphism axis table) p)) × ((turned axis x y).1 < across (grid_axis axis) p)
+    → ((turned axis x y).0 < length (all_strands (morphism axis table) p)) × ((turned axis x y).1 < across axis p)
 within One table p g x y lx ly = let n = count_all (morphism One table) p g in (omega arith, ly)
 within Two table p g x y lx ly = let n = count_all (morphism Two table) p g in (omega arith, lx)
 
 pub turned_within : (m : Morphism) (p : Grid) (g : IsGrid p) (x y : ℕ) → x < (image m p).width → y < (image m p).height
-    → ((turned m.axis x y).0 < length (all_strands m p)) × ((turned m.axis x y).1 < across (grid_axis m.axis) p)
+    → ((turned m.axis x y).0 < length (all_strands m p)) × ((turned m.axis x y).1 < across m.axis p)
 turned_within m p g x y lx ly = within m.axis m.table p g x y lx ly
 
 -- a cell of the image
@@ -183,12 +180,12 @@ cell_laid : (axis : Axis) (table : List Image) (p : Grid) (g : IsGrid p) (x y : 
     → cell (image (morphism axis table) p) x y ≡ laid (morphism axis table) p (all_strands (morphism axis table) p) x y
 cell_laid One table p g x y lx ly =
     let m = morphism One table in
-    let ls = image_lines (pieces m) (lines first_axis p) in
+    let ls = image_lines (pieces m) (lines One p) in
     let n = count_all m p g in
     cell_of (length ls) p.height x y (λ i j. get_or (get_or ls i []) j 0) lx ly ∙ laid_at m p g x y (omega arith) ly
 cell_laid Two table p g x y lx ly =
     let m = morphism Two table in
-    let ls = image_lines (pieces m) (lines second_axis p) in
+    let ls = image_lines (pieces m) (lines Two p) in
     let n = count_all m p g in
     cell_of p.width (length ls) x y (λ i j. get_or (get_or ls j []) i 0) lx ly ∙ laid_at m p g y x (omega arith) lx
 
@@ -225,10 +222,10 @@ grid_whole (suc w) h f =
 
 whole_of : (axis : Axis) (table : List Image) (p : Grid) → part (image (morphism axis table) p) 0 0 (image (morphism axis table) p).width (image (morphism axis table) p).height ≡ image (morphism axis table) p
 whole_of One table p =
-    let ls = image_lines (pieces (morphism One table)) (lines first_axis p) in
+    let ls = image_lines (pieces (morphism One table)) (lines One p) in
     grid_whole (length ls) p.height (λ i j. get_or (get_or ls i []) j 0)
 whole_of Two table p =
-    let ls = image_lines (pieces (morphism Two table)) (lines second_axis p) in
+    let ls = image_lines (pieces (morphism Two table)) (lines Two p) in
     grid_whole p.width (length ls) (λ i j. get_or (get_or ls j []) i 0)
 
 pub laid_whole : (m : Morphism) (p : Grid) → part (image m p) 0 0 (image m p).width (image m p).height ≡ image m p

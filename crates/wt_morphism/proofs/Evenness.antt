@@ -1,14 +1,13 @@
 -- Even lines, and the images of rectangles whose lines are even.
 use Rattle.std.proofs.Common.{arith, ◌≡◌, ◌↔◌, ℕ, zero, suc, ◌+◌, ◌<◌, ◌≤◌, Bool, true, false, cond, not, List, [], ◌∷◌, length, map, Option, None, Some, refl, ap, sym, ◌∙◌, subst}
+use Rattle.wt_grid.specs.declared.image.Image.{Image}
+use Rattle.wt_grid.specs.declared.axis.Axis.TheVariants.{One, Two}
+use Rattle.wt_grid.specs.declared.axis.Axis.{Axis}
 use Rattle.std.proofs.lemmas.List.{length-map}
-use Rattle.wt_tile.specs.declared.tile.Axis.{Axis}
-use Rattle.wt_tile.specs.declared.tile.Axis.TheVariants.{One, Two}
-use Rattle.wt_tile.specs.Matching.{grid_axis}
 use Rattle.wt_grid.specs.First.{or_else, first_from}
 use Rattle.wt_grid.specs.Order.{agree}
-use Rattle.wt_grid.specs.Lines.{Piece, IsImage, AllLong}
+use Rattle.wt_grid.specs.Lines.{IsImage, AllLong}
 use Rattle.wt_grid.specs.Grid.{Grid, IsGrid, cell, along, across, at, listed, lines, of_lines}
-use Rattle.wt_grid.specs.Grid.{Axis as GridAxis, one as first_axis, two as second_axis}
 use Rattle.wt_grid.specs.Parts.{AllBelow}
 use Rattle.wt_grid.specs.Images.{piece_at, is_pair, is_double, image_lines, image_grid, IsEvenLine, IsEven}
 use Rattle.wt_grid.proofs.First.{none_from}
@@ -18,9 +17,8 @@ use Rattle.wt_grid.proofs.Images.{even_image}
 use Rattle.wt_grid.proofs.ImageGrids.{lines_below, long_images, image_count}
 use Rattle.wt_grid.proofs.CarriedSides.{image_found}
 use Rattle.wt_grid.proofs.Rectangles.{same_lines}
-use Rattle.wt_morphism.specs.declared.image.Image.{Image}
 use Rattle.wt_morphism.specs.declared.image.Morphism.{Morphism}
-use Rattle.wt_morphism.specs.Images.{piece, pieces, image, image_at, is_two, line_start, uneven_at, uneven_in, uneven}
+use Rattle.wt_morphism.specs.Images.{piece, pieces, image, is_two, line_start, uneven_at, uneven_in, uneven}
 use Rattle.wt_morphism.proofs.Cells.{piece_of}
 
 from_none : {A : Type 0} (f : ℕ → Option A) (i n : ℕ) → ((k : ℕ) → i ≤ k → k < i + n → f k ≡ None) → first_from f i n ≡ None
@@ -43,7 +41,7 @@ none_agree false x e = absurd cc
 
 -- Lines of numbers, by a function.
 
-module _ (im : List Piece) where
+module _ (im : List Image) where
   even_line : (b : Bool) (n : ℕ) (f : ℕ → ℕ) → ((j : ℕ) → j < n → is_pair (piece_at im (f j)) ≡ b) → IsEvenLine im b (listed n f)
   even_line b zero f h = tt
   even_line b (suc n) f h = (h 0 (omega arith), even_line b n (λ k. f (suc k)) (λ j lt. h (suc j) (omega arith)))
@@ -75,7 +73,7 @@ module _ (im : List Piece) where
 abbrev morphism : Axis → List Image → Morphism
 morphism axis table = record { axis = axis; table = table }
 
-two_of : (table : List Image) (t : ℕ) → is_pair (piece_at (map piece table) t) ≡ is_pair (piece (image_at table t))
+two_of : (table : List Image) (t : ℕ) → is_pair (piece_at (map piece table) t) ≡ is_pair (piece (piece_at table t))
 two_of table t = ap is_pair (piece_of table t)
 
 cells_none : (m : Morphism) (p : Grid) → uneven m p ≡ None → (x y : ℕ) → x < p.width → y < p.height → is_two m (cell p x y) ≡ is_two m (line_start m.axis p x y)
@@ -90,35 +88,35 @@ unfolding uneven
 none_cells m p h = from_none (uneven_in m p) 0 p.height (λ y low high. from_none (uneven_at m p y) 0 p.width (λ x l r.
     let e = agreed (is_two m (cell p x y)) (is_two m (line_start m.axis p x y)) (h x y (omega arith) (omega arith)) in rw e refl))
 
-even_of : (axis : Axis) (table : List Image) (p : Grid) → IsGrid p → uneven (morphism axis table) p ≡ None → IsEven (map piece table) (lines (grid_axis axis) p)
+even_of : (axis : Axis) (table : List Image) (p : Grid) → IsGrid p → uneven (morphism axis table) p ≡ None → IsEven (map piece table) (lines axis p)
 even_of One table p g e = lines_even (map piece table) p.height g.high p.width (λ i j. cell p i j) (λ i j li lj.
     two_of table (cell p i j) ∙ (cells_none (morphism One table) p e i j li lj ∙ sym (two_of table (cell p i 0))))
 even_of Two table p g e = lines_even (map piece table) p.width g.wide p.height (λ i j. cell p j i) (λ i j li lj.
     two_of table (cell p j i) ∙ (cells_none (morphism Two table) p e j i lj li ∙ sym (two_of table (cell p 0 i))))
 
-of_even : (axis : Axis) (table : List Image) (p : Grid) → IsGrid p → IsEven (map piece table) (lines (grid_axis axis) p) → uneven (morphism axis table) p ≡ None
+of_even : (axis : Axis) (table : List Image) (p : Grid) → IsGrid p → IsEven (map piece table) (lines axis p) → uneven (morphism axis table) p ≡ None
 of_even One table p g h = none_cells (morphism One table) p (λ x y lx ly.
     sym (two_of table (cell p x y)) ∙ (even_lines (map piece table) p.height g.high p.width (λ i j. cell p i j) h x y lx ly ∙ two_of table (cell p x 0)))
 of_even Two table p g h = none_cells (morphism Two table) p (λ x y lx ly.
     sym (two_of table (cell p x y)) ∙ (even_lines (map piece table) p.width g.wide p.height (λ i j. cell p j i) h y x ly lx ∙ two_of table (cell p 0 y)))
 
-pub uneven_even : (m : Morphism) (p : Grid) → IsGrid p → (uneven m p ≡ None) ↔ IsEven (pieces m) (lines (grid_axis m.axis) p)
+pub uneven_even : (m : Morphism) (p : Grid) → IsGrid p → (uneven m p ≡ None) ↔ IsEven (pieces m) (lines m.axis p)
 uneven_even m p g = (λ e. even_of m.axis m.table p g e, λ h. of_even m.axis m.table p g h)
 
 -- The image has the lines that the lines stand for.
 
-across_some : (axis : GridAxis) (p : Grid) → IsGrid p → 1 ≤ across axis p
-across_some first_axis p g = g.high
-across_some second_axis p g = g.wide
+across_some : (axis : Axis) (p : Grid) → IsGrid p → 1 ≤ across axis p
+across_some One p g = g.high
+across_some Two p g = g.wide
 
-along_some : (axis : GridAxis) (p : Grid) → IsGrid p → 1 ≤ along axis p
-along_some first_axis p g = g.wide
-along_some second_axis p g = g.high
+along_some : (axis : Axis) (p : Grid) → IsGrid p → 1 ≤ along axis p
+along_some One p g = g.wide
+along_some Two p g = g.high
 
-image_lines_of : (axis : GridAxis) (im : List Piece) (q : Grid) → lines axis (image_grid axis im q) ≡ image_lines im (lines axis q)
+image_lines_of : (axis : Axis) (im : List Image) (q : Grid) → lines axis (image_grid axis im q) ≡ image_lines im (lines axis q)
 image_lines_of axis im q = lines_of axis (across axis q) (image_lines im (lines axis q)) (long_images im (across axis q) (lines axis q) (long_lines axis q))
 
-image_is_grid : (axis : GridAxis) (im : List Piece) (q : Grid) → IsGrid q → IsGrid (image_grid axis im q)
+image_is_grid : (axis : Axis) (im : List Image) (q : Grid) → IsGrid q → IsGrid (image_grid axis im q)
 image_is_grid axis im q g =
     let n = (image_count im (lines axis q)).0 in
     let l = length_lines axis q in
@@ -126,9 +124,9 @@ image_is_grid axis im q g =
     grid_of_lines axis (across axis q) (image_lines im (lines axis q)) (across_some axis q g) (omega arith)
 
 pub only_image : (m : Morphism) (q g : Grid) → IsGrid q → IsGrid g → AllBelow (length m.table) q
-    → IsImage (pieces m) (lines (grid_axis m.axis) q) (lines (grid_axis m.axis) g) ↔ (uneven m q ≡ None) × (g ≡ image m q)
+    → IsImage (pieces m) (lines m.axis q) (lines m.axis g) ↔ (uneven m q ≡ None) × (g ≡ image m q)
 only_image m q g iq ig b =
-    let axis = grid_axis m.axis in
+    let axis = m.axis in
     let im = pieces m in
     let both = uneven_even m q iq in (
       λ i.

@@ -1,16 +1,14 @@
 -- Images of patterns, and why a pattern has none.
 use Rattle.std.specs.Prelude.{◌≡◌, ℕ, ◌+◌, Bool, true, false, ◌||◌, nat_lt, List, [], ◌∷◌, map, slice_index_or, Option, None, Some, if◌then◌else◌}
+use Rattle.wt_grid.specs.declared.image.Image.TheVariants.{One as Single, Two as Double}
+use Rattle.wt_grid.specs.declared.image.Image.{Image}
+use Rattle.wt_grid.specs.declared.axis.Axis.TheVariants.{One, Two}
+use Rattle.wt_grid.specs.declared.axis.Axis.{Axis}
 use Rattle.std.specs.Option.{option_map}
-use Rattle.wt_tile.specs.declared.tile.Axis.{Axis}
-use Rattle.wt_tile.specs.declared.tile.Axis.TheVariants.{One, Two}
-use Rattle.wt_tile.specs.Matching.{grid_axis}
 use Rattle.wt_grid.specs.First.{or_else, first_from}
 use Rattle.wt_grid.specs.Order.{agree}
-use Rattle.wt_grid.specs.Lines.{Piece, one, two}
 use Rattle.wt_grid.specs.Grid.{Grid, cell}
-use Rattle.wt_grid.specs.Images.{is_pair, image_grid}
-use Rattle.wt_morphism.specs.declared.image.Image.{Image}
-use Rattle.wt_morphism.specs.declared.image.Image.TheVariants.{One as Single, Two as Double}
+use Rattle.wt_grid.specs.Images.{is_pair, image_grid, piece_at}
 use Rattle.wt_morphism.specs.declared.image.Morphism.{Morphism}
 use Rattle.wt_morphism.specs.declared.fault.ApplyFault.{ApplyFault}
 use Rattle.wt_morphism.specs.declared.fault.ApplyFault.TheVariants.{Uneven, TooLarge, OutOfMemory}
@@ -18,24 +16,20 @@ use Rattle.wt_morphism.specs.declared.fault.CutFault.{CutFault}
 use Rattle.wt_morphism.specs.declared.fault.CutFault.TheVariants as cut
 
 -- what a tile stands for, as one number or two
-abbrev pub piece : Image → Piece
-piece (Single a) = one a
-piece (Double a b) = two a b
+abbrev pub piece : Image → Image
+piece (Single a) = Single a
+piece (Double a b) = Double a b
 
-abbrev pub pieces : Morphism → List Piece
+abbrev pub pieces : Morphism → List Image
 pieces m = map piece m.table
 
 -- the rectangle that p stands for, where each line of p is even
 abbrev pub image : Morphism → Grid → Grid
-image m p = image_grid (grid_axis m.axis) (pieces m) p
-
--- the image of a tile; a number past the table counts as one that stands for tile 0
-abbrev pub image_at : List Image → ℕ → Image
-image_at table tile = slice_index_or table tile (Single 0)
+image m p = image_grid m.axis (pieces m) p
 
 -- the tile stands for two
 abbrev pub is_two : Morphism → ℕ → Bool
-is_two m tile = is_pair (piece (image_at m.table tile))
+is_two m tile = is_pair (piece (piece_at m.table tile))
 
 -- the first cell of the line that cell (x, y) stands in: of its column for axis 1, of its row for axis 2
 abbrev pub line_start : Axis → Grid → ℕ → ℕ → ℕ

@@ -1,14 +1,14 @@
 -- The lines of an image, each with the line of the pattern that it comes from.
 use Rattle.std.specs.Prelude.{ℕ, zero, suc, ◌+◌, ◌/◌, ◌%◌, Bool, true, false, List, [], ◌∷◌, slice_index_or, if◌then◌else◌}
-use Rattle.wt_tile.specs.declared.tile.Axis.{Axis}
-use Rattle.wt_tile.specs.declared.tile.Axis.TheVariants.{One, Two}
-use Rattle.wt_tile.specs.Matching.{grid_axis}
+use Rattle.wt_grid.specs.Images.{piece_at}
+use Rattle.wt_grid.specs.declared.image.Image.TheVariants.{One as Single, Two as Double}
+use Rattle.wt_grid.specs.declared.image.Image.{Image}
+use Rattle.wt_grid.specs.declared.axis.Axis.TheVariants.{One, Two}
+use Rattle.wt_grid.specs.declared.axis.Axis.{Axis}
 use Rattle.wt_grid.specs.Grid.{Grid, along, at}
-use Rattle.wt_morphism.specs.declared.image.Image.{Image}
-use Rattle.wt_morphism.specs.declared.image.Image.TheVariants.{One as Single, Two as Double}
 use Rattle.wt_morphism.specs.declared.image.Morphism.{Morphism}
 use Rattle.wt_morphism.specs.declared.laid.Strand.{Strand}
-use Rattle.wt_morphism.specs.Images.{image_at, is_two}
+use Rattle.wt_morphism.specs.Images.{is_two}
 
 -- of n lines from line i on, each stands for its first line, or for its first and its second
 abbrev pub strands : (ℕ → Bool) → ℕ → ℕ → List Strand
@@ -17,10 +17,10 @@ strands two i (suc n) = (record { line = i; second = false }) ∷ (if two i then
 
 -- the line stands for two, as its first tile does
 abbrev pub line_is_two : Morphism → Grid → ℕ → Bool
-line_is_two m p i = is_two m (at (grid_axis m.axis) p i 0)
+line_is_two m p i = is_two m (at m.axis p i 0)
 
 abbrev pub all_strands : Morphism → Grid → List Strand
-all_strands m p = strands (line_is_two m p) 0 (along (grid_axis m.axis) p)
+all_strands m p = strands (line_is_two m p) 0 (along m.axis p)
 
 -- the first or the second tile of an image
 abbrev pub tile_of : Bool → Image → ℕ
@@ -29,7 +29,7 @@ tile_of second (Double a b) = if second then b else a
 
 -- cell j of a line of the image
 abbrev pub strand_cell : Morphism → Grid → Strand → ℕ → ℕ
-strand_cell m p s j = tile_of s.second (image_at m.table (at (grid_axis m.axis) p s.line j))
+strand_cell m p s j = tile_of s.second (piece_at m.table (at m.axis p s.line j))
 
 abbrev pub strand_at : List Strand → ℕ → Strand
 strand_at ss i = slice_index_or ss i (record { line = 0; second = false })

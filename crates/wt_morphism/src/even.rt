@@ -1,7 +1,7 @@
 // Whether each line of a pattern has images of one length.
 ghost use Rattle.std.specs.Prelude.{◌≡◌, ◌<◌};
 ghost use Rattle.wt_pattern.specs.Shape.{IsShape};
-ghost use Rattle.wt_grid.specs.Images.{is_pair};
+ghost use Rattle.wt_grid.specs.Images.{is_pair, piece_at};
 ghost use Rattle.wt_morphism.specs.Images.{piece};
 ghost use Rattle.wt_morphism.specs.Images as spec;
 
@@ -11,7 +11,7 @@ use wt_tile::Axis;
 
 /// The image of a tile; a number past the table counts as one that stands for tile 0.
 pub fn image_at(table: &[Image], tile: u16) -> Image
-    ensures { result ≡ spec.image_at table.now tile }
+    ensures { result ≡ piece_at table.now tile }
 {
     let tile = usize::from(tile);
     if tile < table.len() {

@@ -1,16 +1,8 @@
 // What tiles stand for along an axis.
 
+use wt_grid::Image;
 use wt_seq::Seq;
 use wt_tile::Axis;
-
-/// What a tile stands for: one tile, or two, the second behind the first along the axis.
-#[derive(Clone, Copy, Debug, PartialEq, Eq)]
-pub enum Image {
-    /// This tile alone.
-    One(u16),
-    /// The first tile, and the second behind it.
-    Two(u16, u16),
-}
 
 /// The images of the tiles 0, 1, .. along an axis: a substitution that gives each tile one or two
 /// (Labbé, "Substitutive structure of Jeandel-Rao aperiodic tilings").

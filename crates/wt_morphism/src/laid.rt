@@ -1,6 +1,5 @@
 // Images laid out line by line.
 ghost use Rattle.std.specs.Prelude.{◌≡◌, ◌*◌, ◌<◌, ◌≤◌, ◌++◌, length, IfOk, OnOk};
-ghost use Rattle.wt_tile.specs.Matching.{grid_axis};
 ghost use Rattle.wt_grid.specs.Grid.{listed, grid_of};
 ghost use Rattle.wt_grid.specs.Grid as grid;
 ghost use Rattle.wt_grid.specs.Parts.{part};
@@ -24,9 +23,9 @@ pub struct Strand {
 
 /// How many lines the pattern has along the axis.
 fn along(axis: Axis, p: &Pattern) -> usize
-    ensures value { result ≡ grid.along (grid_axis axis) p.now }
+    ensures value { result ≡ grid.along axis p.now }
     ensures few { result ≤ 4096 }
-    ensures wide { 0 < grid.across (grid_axis axis) p.now }
+    ensures wide { 0 < grid.across axis p.now }
 {
     match axis {
         Axis::One => p.width(),
@@ -36,9 +35,9 @@ fn along(axis: Axis, p: &Pattern) -> usize
 
 /// Cell j of line i along the axis.
 fn at(axis: Axis, p: &Pattern, i: usize, j: usize) -> u16
-    requires line { i < grid.along (grid_axis axis) p.now }
-    requires cell { j < grid.across (grid_axis axis) p.now }
-    ensures { result ≡ grid.at (grid_axis axis) p.now i j }
+    requires line { i < grid.along axis p.now }
+    requires cell { j < grid.across axis p.now }
+    ensures { result ≡ grid.at axis p.now i j }
 {
     match axis {
         Axis::One => p.cell(i, j),
@@ -48,8 +47,8 @@ fn at(axis: Axis, p: &Pattern, i: usize, j: usize) -> u16
 
 /// Whether a line stands for two, as its first tile does.
 fn line_is_two(m: &Morphism, p: &Pattern, i: usize) -> bool
-    requires line { i < grid.along (grid_axis m.now.axis) p.now }
-    requires wide { 0 < grid.across (grid_axis m.now.axis) p.now }
+    requires line { i < grid.along m.now.axis p.now }
+    requires wide { 0 < grid.across m.now.axis p.now }
     ensures { result ≡ strand_words.line_is_two m.now p.now i }
 {
     is_two(m, at(m.axis, p, i, 0))
@@ -111,7 +110,7 @@ fn turned(axis: Axis, x: usize, y: usize) -> (usize, usize)
 fn laid_cell(m: &Morphism, p: &Pattern, lines: &[Strand], x: usize, y: usize) -> u16
     requires lines { lines.now ≡ all_strands m.now p.now }
     requires line { (strand_words.turned m.now.axis x y).0 < length lines.now }
-    requires cell { (strand_words.turned m.now.axis x y).1 < grid.across (grid_axis m.now.axis) p.now }
+    requires cell { (strand_words.turned m.now.axis x y).1 < grid.across m.now.axis p.now }
     ensures { result ≡ strand_words.laid m.now p.now lines.now x y }
 {
     let (line, cell) = turned(m.axis, x, y);

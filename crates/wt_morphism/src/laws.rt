@@ -1,6 +1,5 @@
 // What images are, line by line.
 ghost use Rattle.std.specs.Prelude.{◌≡◌, ◌↔◌, None, length};
-ghost use Rattle.wt_tile.specs.Matching.{grid_axis};
 ghost use Rattle.wt_grid.specs.Lines.{IsImage};
 ghost use Rattle.wt_grid.specs.Grid.{Grid, IsGrid, lines};
 ghost use Rattle.wt_grid.specs.Parts.{AllBelow};
@@ -10,11 +9,11 @@ ghost use Rattle.wt_morphism.specs.Images.{pieces, image, uneven};
 
 /// No cell is uneven exactly where the images in each line have one length.
 pub fn uneven_lines()
-    ensures { (m : Morphism) (p : Grid) → IsGrid p → (uneven m p ≡ None) ↔ IsEven (pieces m) (lines (grid_axis m.axis) p) }
+    ensures { (m : Morphism) (p : Grid) → IsGrid p → (uneven m p ≡ None) ↔ IsEven (pieces m) (lines m.axis p) }
 {}
 
 /// A rectangle has the image q laid line by line exactly where q's lines are even and it is the image of q.
 pub fn images_are_images()
     ensures { (m : Morphism) (q g : Grid) → IsGrid q → IsGrid g → AllBelow (length m.table) q
-        → IsImage (pieces m) (lines (grid_axis m.axis) q) (lines (grid_axis m.axis) g) ↔ (uneven m q ≡ None) × (g ≡ image m q) }
+        → IsImage (pieces m) (lines m.axis q) (lines m.axis g) ↔ (uneven m q ≡ None) × (g ≡ image m q) }
 {}

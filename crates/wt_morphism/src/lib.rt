@@ -12,5 +12,6 @@ mod tests;
 
 pub use applied::{apply, apply_all, apply_part};
 pub use fault::{ApplyFault, CutFault};
-pub use image::{Image, Morphism};
+pub use image::Morphism;
 pub use laws::{images_are_images, uneven_lines};
+pub use wt_grid::Image;

@@ -1,10 +1,11 @@
 -- Numbers and names, both ways.
 use Rattle.std.proofs.Common.{rules, arith, ◌≡◌, ◌⊎◌, ℕ, zero, suc, ◌+◌, ◌≤◌, ◌<◌, ◌≢◌, if◌then◌else◌, Bool, true, false, cond, not, ◌&&◌, ◌||◌, nat_eq, List, [], ◌∷◌, ◌++◌, length, take, drop, refl, sym, ap, ◌∙◌, append_assoc, subst, inl, inr, length-append, eq-eqb}
+use Rattle.wt_tile.specs.Sets.{is_among, apart}
 use Rattle.std.specs.Str.{bytes_eq}
 use Rattle.std.proofs.lemmas.Slice.Eq.{bytes_eq-Decides}
 use Rattle.std.proofs.lemmas.List.{append-nil, take_all}
 use Rattle.std.proofs.lemmas.Bool.{eqb-true, eqb-false}
-use Rattle.wt_names.specs.Numbering.{place, is_among, seen_after, numbered, all_seen, name_at, named, apart, InOrder}
+use Rattle.wt_names.specs.Numbering.{place, seen_after, numbered, all_seen, name_at, named, InOrder}
 
 same_name : (x y : List ℕ) → bytes_eq x y ≡ true → x ≡ y
 same_name x y = (bytes_eq-Decides x y).0

@@ -1,9 +1,10 @@
 -- Numbers by first coming are in order, and the names seen are apart.
 use Rattle.std.proofs.Common.{rules, arith, ◌≡◌, ℕ, zero, suc, ◌+◌, ◌≤◌, ◌<◌, if◌then◌else◌, Bool, true, false, cond, not, ◌&&◌, ◌||◌, nat_eq, List, [], ◌∷◌, ◌++◌, length, refl, sym, ap, ◌∙◌, subst, length-append, eq-eqb}
+use Rattle.wt_tile.specs.Sets.{is_among, apart}
 use Rattle.std.specs.Str.{bytes_eq}
 use Rattle.std.proofs.lemmas.Slice.Eq.{bytes_eq-Decides}
 use Rattle.std.proofs.lemmas.Bool.Decides.{nat_tests}
-use Rattle.wt_names.specs.Numbering.{place, is_among, seen_after, numbered, all_seen, apart, InOrder}
+use Rattle.wt_names.specs.Numbering.{place, seen_after, numbered, all_seen, InOrder}
 
 place_among : (x : List ℕ) (ys : List (List ℕ)) → is_among x ys ≡ true → place x ys < length ys
 place_among x [] h = absurd cc

@@ -1,10 +1,11 @@
 -- A row of names in a line, both ways.
 use Rattle.std.proofs.Common.{rules, arith, ◌≡◌, ℕ, Bool, true, false, cond, ◌&&◌, nat_eq, nat_lt, nat_le, List, [], ◌∷◌, ◌++◌, length, Option, Some, None, Result, Ok, Err, refl, sym, ap, ◌∙◌}
+use Rattle.wt_tile.specs.Names.{is_name_byte, all_name_bytes}
 use Rattle.std.proofs.lemmas.Bool.Decides.{nat_tests}
 use Rattle.wt_text.specs.Readers.{LineFault, whole}
 use Rattle.wt_text.specs.Spellings.{IsClean, AllFit}
 use Rattle.wt_text.proofs.Formats.{IsFormat, IsLine, both_format, whole_line, read_is}
-use Rattle.wt_names.specs.Rows.{is_name_byte, all_name_bytes, is_name, name_word, name_spelling, row_form, row_spelling, RowFits}
+use Rattle.wt_names.specs.Rows.{is_name, name_word, name_spelling, row_form, row_spelling, RowFits}
 
 byte_clean : (b : ℕ) → is_name_byte b ≡ true → (nat_eq b 32 ≡ false) × (nat_eq b 10 ≡ false)
 byte_clean b e = (grind (arith, nat_tests), grind (arith, nat_tests))

@@ -1,6 +1,7 @@
 -- Rows of names as numbered tiles, and back.
 use Rattle.std.proofs.Common.{rules, arith, ◌≡◌, ℕ, zero, suc, ◌≤◌, Bool, true, false, List, [], ◌∷◌, ◌++◌, length, take, refl, sym, ap, ◌∙◌, subst}
-use Rattle.wt_names.specs.Numbering.{seen_after, numbered, all_seen, named, apart, InOrder}
+use Rattle.wt_tile.specs.Sets.{apart}
+use Rattle.wt_names.specs.Numbering.{seen_after, numbered, all_seen, named, InOrder}
 use Rattle.wt_names.specs.Rows.{Edges, along1, along2, tiles_from, NumberedTiles, with_numbers, with_names, IsNumbered}
 use Rattle.wt_names.proofs.Numbered.{names_again, numbers_again}
 use Rattle.wt_names.proofs.Ordered.{numbered_in_order, seen_apart}

@@ -1,8 +1,10 @@
 -- Tiles as four edges: right, top, left, bottom. Each axis has its own names and numbers.
 use Rattle.std.specs.Prelude.{◌≡◌, ℕ, ◌≤◌, Bool, true, false, ◌&&◌, ◌||◌, nat_le, nat_lt, nat_eq, if◌then◌else◌, List, [], ◌∷◌, ◌++◌, length, Option, None, Some, Result, Ok, Err, IsTrue}
+use Rattle.wt_tile.specs.Sets.{apart}
+use Rattle.wt_tile.specs.Names.{is_name_byte, all_name_bytes}
 use Rattle.wt_text.specs.Readers.{LineFault, both, whole}
 use Rattle.wt_text.specs.Spellings.{both_spelling}
-use Rattle.wt_names.specs.Numbering.{numbered, all_seen, named, apart, InOrder}
+use Rattle.wt_names.specs.Numbering.{numbered, all_seen, named, InOrder}
 
 pub record Edges (A : Type 0) : Type 0 where
   pub right : A
@@ -44,14 +46,6 @@ pub record IsNumbered (list : NumberedTiles) : Type 0 where
   pub apart2 : apart list.names2 ≡ true
 
 -- ---- a row in a line
-
--- a letter, a digit or one of _ . - '
-abbrev pub is_name_byte : ℕ → Bool
-is_name_byte b = (nat_le 97 b && nat_le b 122) || (nat_le 65 b && nat_le b 90) || (nat_le 48 b && nat_le b 57) || nat_eq b 95 || nat_eq b 46 || nat_eq b 45 || nat_eq b 39
-
-abbrev pub all_name_bytes : List ℕ → Bool
-all_name_bytes [] = true
-all_name_bytes (b ∷ bs) = is_name_byte b && all_name_bytes bs
 
 abbrev pub is_name : List ℕ → Bool
 is_name t = nat_lt 0 (length t) && nat_le (length t) 16 && all_name_bytes t

@@ -1,13 +1,12 @@
 -- A pattern without a fault is one whose cells are tiles, and whose neighbours match.
 use Rattle.std.proofs.Common.{arith, ◌≡◌, ℕ, zero, suc, ◌+◌, ◌≤◌, ◌<◌, List, length, Option, None, Some, Bool, true, false, not, ◌&&◌, nat_lt, if◌then◌else◌, refl, sym, ◌∙◌}
+use Rattle.wt_grid.specs.declared.axis.Axis.TheVariants.{One, Two}
+use Rattle.wt_grid.specs.declared.axis.Axis.{Axis}
 use Rattle.std.proofs.lemmas.Bool.Decides.{nat_tests}
 use Rattle.wt_tile.specs.declared.tile.Tile.{Tile}
-use Rattle.wt_tile.specs.declared.tile.Axis.{Axis}
-use Rattle.wt_tile.specs.declared.tile.Axis.TheVariants.{One, Two}
-use Rattle.wt_tile.specs.Matching.{matches, matching, grid_axis}
+use Rattle.wt_tile.specs.Matching.{matches}
 use Rattle.wt_grid.specs.First.{first_from}
 use Rattle.wt_grid.specs.Grid.{Grid, cell, IsGrid, along, across}
-use Rattle.wt_grid.specs.Grid.{one as first_axis, two as second_axis}
 use Rattle.wt_grid.specs.Parts.{AllBelow, IsValid, IsWindow}
 use Rattle.wt_grid.proofs.First.{none_from}
 use Rattle.wt_pattern.specs.declared.fault.Fault.{Fault}
@@ -54,14 +53,14 @@ not_false false e = absurd (cc)
 clash_free : (ts : List Tile) (g : Grid) → first_fault ts g ≡ None → (x y : ℕ) → x < g.width → y < g.height → (clashes ts One g y x ≡ false) × (clashes ts Two g y x ≡ false)
 clash_free ts g e x y lx ly = no_clash (clashes ts One g y x) (clashes ts Two g y x) _ _ (each_none (fault_at ts g y) g.width (each_none (fault_in ts g) g.height e y ly) x lx)
 
-pub is_valid : (ts : List Tile) (g : Grid) → first_fault ts g ≡ None → IsValid (matching ts) g
-is_valid ts g e first_axis i j li lj =
+pub is_valid : (ts : List Tile) (g : Grid) → first_fault ts g ≡ None → IsValid (matches ts) g
+is_valid ts g e One i j li lj =
     let next : suc i ≡ i + 1 = omega arith in
     let test : nat_lt (i + 1) g.width ≡ true = grind (arith, nat_tests) in
     let c = (clash_free ts g e i j (omega arith) lj).0 in
     let free : not (matches ts One (cell g i j) (cell g (i + 1) j)) ≡ false = rw test at c in
     rw next (not_false (matches ts One (cell g i j) (cell g (i + 1) j)) free)
-is_valid ts g e second_axis i j li lj =
+is_valid ts g e Two i j li lj =
     let next : suc i ≡ i + 1 = omega arith in
     let test : nat_lt (i + 1) g.height ≡ true = grind (arith, nat_tests) in
     let c = (clash_free ts g e j i lj (omega arith)).1 in
@@ -75,17 +74,17 @@ agrees b n m h = by (nat_lt n m) refl
     by true p = let e : b ≡ true = h (grind (arith, nat_tests, p)) in rw (p, e) refl
     by false p = rw p refl
 
-pub no_fault : (ts : List Tile) (g : Grid) → IsValid (matching ts) g → first_fault ts g ≡ None
+pub no_fault : (ts : List Tile) (g : Grid) → IsValid (matches ts) g → first_fault ts g ≡ None
 no_fault ts g v = none_each (fault_in ts g) g.height (λ y ly. none_each (fault_at ts g y) g.width (λ x lx.
     let next : suc x ≡ x + 1 = omega arith in
     let up : suc y ≡ y + 1 = omega arith in
-    let right : clashes ts One g y x ≡ false = agrees (matches ts One (cell g x y) (cell g (x + 1) y)) (x + 1) g.width (λ lt. let le : suc x < g.width = omega arith in rw next at (v first_axis x y le ly)) in
-    let above : clashes ts Two g y x ≡ false = agrees (matches ts Two (cell g x y) (cell g x (y + 1))) (y + 1) g.height (λ lt. let le : suc y < g.height = omega arith in rw up at (v second_axis y x le lx)) in
+    let right : clashes ts One g y x ≡ false = agrees (matches ts One (cell g x y) (cell g (x + 1) y)) (x + 1) g.width (λ lt. let le : suc x < g.width = omega arith in rw next at (v One x y le ly)) in
+    let above : clashes ts Two g y x ≡ false = agrees (matches ts Two (cell g x y) (cell g x (y + 1))) (y + 1) g.height (λ lt. let le : suc y < g.height = omega arith in rw up at (v Two y x le lx)) in
     rw (right, above) refl))
 
 -- Windows.
 
-pub window_sizes : (n : ℕ) (ts : List Tile) (axis : Axis) (a b r : ℕ) (g : Grid) → IsWindow n (matching ts) (grid_axis axis) a b r g
+pub window_sizes : (n : ℕ) (ts : List Tile) (axis : Axis) (a b r : ℕ) (g : Grid) → IsWindow n (matches ts) axis a b r g
     → (g.width ≡ (window_size axis r).0) × (g.height ≡ (window_size axis r).1)
 window_sizes n ts One a b r g w = (w.long, w.wide)
 window_sizes n ts Two a b r g w = (w.wide, w.long)

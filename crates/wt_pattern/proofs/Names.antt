@@ -1,7 +1,8 @@
 -- Names of colours, by both definitions.
 use Rattle.std.proofs.Common.{rules, arith, ◌≡◌, ℕ, Bool, true, false, cond, ◌&&◌, nat_lt, nat_le, List, [], ◌∷◌, length, Option, Some, None, refl, sym, ap, ◌∙◌}
+use Rattle.wt_tile.specs.Names.{all_name_bytes}
 use Rattle.wt_tile.specs.Names as tile
-use Rattle.wt_names.specs.Rows.{is_name, all_name_bytes}
+use Rattle.wt_names.specs.Rows.{is_name}
 
 same_bytes : (bs : List ℕ) → tile.all_name_bytes bs ≡ all_name_bytes bs
 same_bytes [] = refl

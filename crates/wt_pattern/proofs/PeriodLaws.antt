@@ -1,10 +1,12 @@
 -- A pattern without a fault of a period has that period.
 use Rattle.std.proofs.Common.{arith, ◌≡◌, ℕ, zero, suc, ◌+◌, ◌-◌, ◌≤◌, ◌<◌, Option, None, Some, Bool, true, false, not, nat_lt, nat_le, nat_eq, if◌then◌else◌, refl, sym, ap, ◌∙◌}
+use Rattle.wt_grid.specs.declared.axis.Axis.TheVariants.{One, Two}
+use Rattle.wt_grid.specs.declared.axis.Axis.{Axis}
 use Rattle.std.specs.Prelude.{ℤ, pos, negsuc, ◌+ℤ◌, neg_ℤ}
 use Rattle.std.proofs.lemmas.Int.{ints}
 use Rattle.std.proofs.lemmas.Bool.Decides.{nat_tests}
 use Rattle.wt_grid.specs.First.{first_from}
-use Rattle.wt_grid.specs.Grid.{Grid, cell, Axis, one, two, along, across, at}
+use Rattle.wt_grid.specs.Grid.{Grid, cell, along, across, at}
 use Rattle.wt_grid.specs.Shifts.{IsRepeated}
 use Rattle.wt_pattern.specs.declared.periods.Shift.{Shift}
 use Rattle.wt_pattern.specs.declared.periods.Shift.TheVariants.{Forward, Back}
@@ -76,10 +78,10 @@ opposite_period axis g d e h i j k l li lj lk ll p q =
     let q' : pos j ≡ pos l +ℤ e = omega (arith, ints) in
     sym (h k l i j lk ll li lj p' q')
 
-pub turned_period : (g : Grid) (dx dy : ℤ) → IsPeriodAlong one g dx dy → IsPeriodAlong two g dy dx
+pub turned_period : (g : Grid) (dx dy : ℤ) → IsPeriodAlong One g dx dy → IsPeriodAlong Two g dy dx
 turned_period g dx dy h i j k l li lj lk ll p q = h j i l k lj li ll lk q p
 
-pub turned_back : (g : Grid) (dx dy : ℤ) → IsPeriodAlong two g dy dx → IsPeriodAlong one g dx dy
+pub turned_back : (g : Grid) (dx dy : ℤ) → IsPeriodAlong Two g dy dx → IsPeriodAlong One g dx dy
 turned_back g dx dy h i j k l li lj lk ll p q = h j i l k lj li ll lk q p
 
 -- Vectors without signs.

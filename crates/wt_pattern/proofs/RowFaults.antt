@@ -1,12 +1,12 @@
 -- The faults of a row: the first to the right and the first upwards, and the colours along a line of cells.
 use Rattle.std.proofs.Common.{arith, ◌≡◌, ℕ, zero, suc, ◌+◌, ◌-◌, ◌*◌, ◌≤◌, ◌<◌, List, take, drop, map, length, get_or, Option, None, Some, Bool, true, false, not, nat_lt, nat_le, if◌then◌else◌, refl, ap, sym, ◌∙◌}
+use Rattle.wt_grid.specs.declared.axis.Axis.TheVariants.{One, Two}
+use Rattle.wt_grid.specs.declared.axis.Axis.{Axis}
 use Rattle.std.specs.List.{slice_range}
 use Rattle.std.proofs.lemmas.Bool.Decides.{nat_tests}
 use Rattle.std.proofs.lemmas.List.{get_or-take, get_or-drop, get_or-map, length-map, length-take, length-drop, take-map, drop-map, drop-drop, take_all}
 use Rattle.std.proofs.lemmas.Nat.{mul-add-lt}
 use Rattle.wt_tile.specs.declared.tile.Tile.{Tile}
-use Rattle.wt_tile.specs.declared.tile.Axis.{Axis}
-use Rattle.wt_tile.specs.declared.tile.Axis.TheVariants.{One, Two}
 use Rattle.wt_tile.specs.Matching.{matches, tile_at, ahead, behind}
 use Rattle.wt_lane.specs.Differs.{first_place_apart}
 use Rattle.wt_grid.specs.First.{first_from}

@@ -1,7 +1,7 @@
 -- Valid patterns over a list of tiles.
 use Rattle.std.specs.Prelude.{List, length}
+use Rattle.wt_tile.specs.Matching.{matches}
 use Rattle.wt_tile.specs.declared.tile.Tile.{Tile}
-use Rattle.wt_tile.specs.Matching.{matching}
 use Rattle.wt_grid.specs.Grid.{Grid, IsGrid}
 use Rattle.wt_grid.specs.Parts.{AllBelow, IsValid}
 
@@ -11,4 +11,4 @@ AllTiles ts g = AllBelow (length ts) g
 
 -- a rectangle of tiles whose neighbours match, of any size
 abbrev pub IsPattern : List Tile → Grid → Type 0
-IsPattern ts g = IsGrid g × AllTiles ts g × IsValid (matching ts) g
+IsPattern ts g = IsGrid g × AllTiles ts g × IsValid (matches ts) g

@@ -1,7 +1,9 @@
 -- Periods of rectangles, and the first cell that differs from the one to which a vector takes it.
 use Rattle.std.specs.Prelude.{◌≡◌, ℕ, suc, ◌+◌, ◌-◌, ◌<◌, Bool, false, not, nat_lt, nat_le, nat_eq, ℤ, pos, negsuc, ◌+ℤ◌, List, length, slice_index, Option, None, Some, if◌then◌else◌}
+use Rattle.wt_grid.specs.declared.axis.Axis.TheVariants.{One}
+use Rattle.wt_grid.specs.declared.axis.Axis.{Axis}
 use Rattle.wt_grid.specs.First.{first_from}
-use Rattle.wt_grid.specs.Grid.{Grid, cell, Axis, one, along, across, at}
+use Rattle.wt_grid.specs.Grid.{Grid, cell, along, across, at}
 use Rattle.wt_pattern.specs.declared.periods.Shift.{Shift}
 use Rattle.wt_pattern.specs.declared.periods.Shift.TheVariants.{Forward, Back}
 
@@ -12,7 +14,7 @@ IsPeriodAlong axis g d e = (i j k l : ℕ) → i < along axis g → j < across a
 
 -- the rectangle has the vector (dx, dy) as a period
 abbrev pub IsPeriod : Grid → ℤ → ℤ → Type 0
-IsPeriod g dx dy = IsPeriodAlong one g dx dy
+IsPeriod g dx dy = IsPeriodAlong One g dx dy
 
 -- a component of a vector, as so many steps forward or back
 abbrev pub shift_of : ℤ → Shift

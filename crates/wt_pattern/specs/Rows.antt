@@ -1,8 +1,8 @@
 -- What is found row by row: the colours along a line of cells, and the first fault of a row.
 use Rattle.std.specs.Prelude.{ℕ, Bool, nat_le, List, map, Option, None, Some, if◌then◌else◌}
+use Rattle.wt_grid.specs.declared.axis.Axis.TheVariants.{One, Two}
+use Rattle.wt_grid.specs.declared.axis.Axis.{Axis}
 use Rattle.wt_tile.specs.declared.tile.Tile.{Tile}
-use Rattle.wt_tile.specs.declared.tile.Axis.{Axis}
-use Rattle.wt_tile.specs.declared.tile.Axis.TheVariants.{One, Two}
 use Rattle.wt_tile.specs.Matching.{tile_at, ahead, behind}
 use Rattle.wt_grid.specs.First.{first_from}
 use Rattle.wt_pattern.specs.declared.fault.Fault.{Fault}

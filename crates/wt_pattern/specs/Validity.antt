@@ -1,9 +1,9 @@
 -- The first cell of a pattern that is no tile, and its first neighbours that don't match, in reading order:
 -- the bottom row first, and in a row from left to right.
 use Rattle.std.specs.Prelude.{ℕ, ◌+◌, Bool, ◌&&◌, not, nat_lt, List, Option, None, Some, if◌then◌else◌}
+use Rattle.wt_grid.specs.declared.axis.Axis.TheVariants.{One, Two}
+use Rattle.wt_grid.specs.declared.axis.Axis.{Axis}
 use Rattle.wt_tile.specs.declared.tile.Tile.{Tile}
-use Rattle.wt_tile.specs.declared.tile.Axis.{Axis}
-use Rattle.wt_tile.specs.declared.tile.Axis.TheVariants.{One, Two}
 use Rattle.wt_tile.specs.Matching.{matches}
 use Rattle.wt_grid.specs.First.{first_from}
 use Rattle.wt_grid.specs.Grid.{Grid, cell}

@@ -1,9 +1,9 @@
 -- Windows round pairs of tiles.
 use Rattle.std.specs.Prelude.{ℕ, ◌+◌, List, length}
+use Rattle.wt_tile.specs.Matching.{matches}
+use Rattle.wt_grid.specs.declared.axis.Axis.TheVariants.{One, Two}
+use Rattle.wt_grid.specs.declared.axis.Axis.{Axis}
 use Rattle.wt_tile.specs.declared.tile.Tile.{Tile}
-use Rattle.wt_tile.specs.declared.tile.Axis.{Axis}
-use Rattle.wt_tile.specs.declared.tile.Axis.TheVariants.{One, Two}
-use Rattle.wt_tile.specs.Matching.{matching, grid_axis}
 use Rattle.wt_grid.specs.Grid.{Grid}
 use Rattle.wt_grid.specs.Parts.{IsWindow}
 
@@ -14,4 +14,4 @@ window_size Two r = (r + r + 1, r + r + 2)
 
 -- no valid window of this radius has a and b side by side in its middle
 abbrev pub IsEmptyWindow : List Tile → Axis → ℕ → ℕ → ℕ → Type 0
-IsEmptyWindow ts axis a b r = (g : Grid) → IsWindow (length ts) (matching ts) (grid_axis axis) a b r g → ⊥
+IsEmptyWindow ts axis a b r = (g : Grid) → IsWindow (length ts) (matches ts) axis a b r g → ⊥

@@ -1,10 +1,11 @@
 // Rows of four colour names, and the tiles that they stand for.
 ghost use Rattle.std.specs.Prelude.{◌≡◌, ◌+◌, ◌<◌, ◌≤◌, MatchOption, OnOk, IfOk, Ok, true, false, length, vec_len};
+ghost use Rattle.wt_tile.specs.Sets.{is_among};
 ghost use Rattle.wt_text.specs.Words.{tokens};
 ghost use Rattle.wt_line.specs.declared.faults.What.{What};
 ghost use Rattle.wt_line.specs.Given.{left};
 ghost use Rattle.wt_line.specs.Faults.{ReadsTokens, ReadsLine, ReadsText};
-ghost use Rattle.wt_names.specs.Numbering.{is_among, place, seen_after};
+ghost use Rattle.wt_names.specs.Numbering.{place, seen_after};
 ghost use Rattle.wt_names.specs.Rows.{name_word, row_form, is_name, RowFits};
 ghost use Rattle.wt_pattern.specs.TileRows.{row_part, tile_rows};
 ghost use Rattle.wt_pattern.specs.Numbered.{four_names, row_words, row_named, next_tile};

@@ -1,12 +1,11 @@
 -- Patterns over the first set of a good loop grow, turn by turn.
 use Rattle.std.proofs.Common.{arith, ◌≤◌, ◌<◌, ◌*◌, ℕ, zero, suc, List, [], ◌∷◌, length, ap, subst}
+use Rattle.wt_grid.specs.declared.axis.Axis.TheVariants.{One, Two}
 use Rattle.wt_tile.specs.declared.tile.Tile.{Tile}
 use Rattle.wt_tile.specs.declared.tile.TileList.{TileList}
-use Rattle.wt_tile.specs.declared.tile.Axis.TheVariants.{One, Two}
 use Rattle.wt_bijection.specs.Carried.{IsRenaming}
 use Rattle.wt_pattern.specs.Patterns.{IsPattern}
 use Rattle.wt_grid.specs.Grid.{Grid, at}
-use Rattle.wt_grid.specs.Grid.{one as first_axis, two as second_axis}
 use Rattle.wt_grid.specs.Widths.{width}
 use Rattle.wt_grid.proofs.Widths.{length_last}
 use Rattle.wt_step.specs.declared.raw.RawLink.{RawLink}
@@ -56,21 +55,21 @@ module _ (l : RawLink) (ls : List RawLink) (list : List ℕ) (linked : AreLinked
     twice_wide : (g : Grid) → IsPattern (fine_of l).tiles g → 2 * g.width ≤ (turned_times (l ∷ ls) list e g).width
     twice_wide g p =
         let s = turns One (l ∷ ls) list e in
-        let a = row_long first_axis (turned_times (l ∷ ls) list e g) in
+        let a = row_long One (turned_times (l ∷ ls) list e g) in
         let b = ap length (times_row One (l ∷ ls) list e g p.0) in
-        let c = length_last s (row first_axis g) in
+        let c = length_last s (row One g) in
         let some = p.0.high in
-        let t = twice (width s) (length (fine_of l).tiles) (grow_wide l ls list e linked ren grows) g.width (λ k. at first_axis g k 0) (λ k lk. p.1 k 0 lk (omega arith)) in
+        let t = twice (width s) (length (fine_of l).tiles) (grow_wide l ls list e linked ren grows) g.width (λ k. at One g k 0) (λ k lk. p.1 k 0 lk (omega arith)) in
         omega (arith, a, b, c, t)
 
     twice_high : (g : Grid) → IsPattern (fine_of l).tiles g → 2 * g.height ≤ (turned_times (l ∷ ls) list e g).height
     twice_high g p =
         let s = turns Two (l ∷ ls) list e in
-        let a = row_long second_axis (turned_times (l ∷ ls) list e g) in
+        let a = row_long Two (turned_times (l ∷ ls) list e g) in
         let b = ap length (times_row Two (l ∷ ls) list e g p.0) in
-        let c = length_last s (row second_axis g) in
+        let c = length_last s (row Two g) in
         let some = p.0.wide in
-        let t = twice (width s) (length (fine_of l).tiles) (grow_high l ls list e linked ren grows) g.height (λ k. at second_axis g k 0) (λ k lk. p.1 0 k (omega arith) lk) in
+        let t = twice (width s) (length (fine_of l).tiles) (grow_high l ls list e linked ren grows) g.height (λ k. at Two g k 0) (λ k lk. p.1 0 k (omega arith) lk) in
         omega (arith, a, b, c, t)
 
 -- After so many turns as let each tile grow, each side of a valid pattern is at least twice as long.

@@ -1,13 +1,13 @@
 -- Over the first set of a good looped chain each pick is a valid pattern, so there are some of every size.
 use Rattle.std.proofs.Common.{arith, ◌≡◌, ◌≤◌, ◌<◌, ◌+◌, ◌*◌, ◌^◌, ℕ, zero, suc, max, List, [], ◌∷◌, length, take, drop, refl, sym, ◌∙◌, ap, subst}
+use Rattle.wt_tile.specs.Matching.{matches}
+use Rattle.wt_grid.specs.declared.axis.Axis.TheVariants.{One, Two}
 use Rattle.std.proofs.Math.Nat.{le-max_left, le-max_right}
 use Rattle.wt_tile.specs.declared.tile.Tile.{Tile}
 use Rattle.wt_tile.specs.declared.tile.TileList.{TileList}
-use Rattle.wt_tile.specs.Matching.{matching}
 use Rattle.wt_tile.proofs.Sizes.{few_tiles}
 use Rattle.wt_pattern.specs.Patterns.{IsPattern}
 use Rattle.wt_grid.specs.Grid.{Grid, cell}
-use Rattle.wt_grid.specs.Grid.{one as first_axis, two as second_axis}
 use Rattle.wt_grid.specs.Parts.{AllBelow, IsValid}
 use Rattle.wt_grid.proofs.Parts.{grid_grid, below_part, valid_part}
 use Rattle.wt_step.specs.declared.raw.RawLink.{RawLink}
@@ -31,14 +31,14 @@ single_pattern ts some = (record { wide = omega arith; high = omega arith; whole
     below : AllBelow (length ts) (single 0)
     below x y lx ly = let z : y * 1 + x ≡ 0 = omega arith in rw z some
 
-    valid : IsValid (matching ts) (single 0)
-    valid first_axis i j li lj = absurd (omega arith)
-    valid second_axis i j li lj = absurd (omega arith)
+    valid : IsValid (matches ts) (single 0)
+    valid One i j li lj = absurd (omega arith)
+    valid Two i j li lj = absurd (omega arith)
 
 -- a part of a valid pattern is valid
 cut_down : (ts : List Tile) (g : Grid) (w h : ℕ) → IsPattern ts g → 1 ≤ w → 1 ≤ h → w ≤ g.width → h ≤ g.height → IsPatternOf ts w h (lower_left w h g)
 cut_down ts g w h p some_wide some_high lw lh = record {
-  pattern = (grid_grid w h (λ i j. cell g (0 + i) (0 + j)) some_wide some_high, below_part (length ts) g 0 0 w h p.1 (omega arith) (omega arith), valid_part (matching ts) g 0 0 w h p.2 (omega arith) (omega arith));
+  pattern = (grid_grid w h (λ i j. cell g (0 + i) (0 + j)) some_wide some_high, below_part (length ts) g 0 0 w h p.1 (omega arith) (omega arith), valid_part (matches ts) g 0 0 w h p.2 (omega arith) (omega arith));
   wide = refl;
   high = refl;
 }

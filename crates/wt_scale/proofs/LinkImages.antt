@@ -1,17 +1,18 @@
 -- Each valid coarse pattern of a good step, of either kind, has an image, which is valid and no smaller.
 use Rattle.std.proofs.Common.{arith, ◌≡◌, ◌<◌, ◌≤◌, ◌+◌, ℕ, suc, List, [], ◌∷◌, length, get_or, None, true, false, nat_eq, refl, sym, ◌∙◌, ap, subst}
+use Rattle.wt_grid.specs.Axes.{same_axis}
+use Rattle.wt_grid.specs.declared.image.Image.TheVariants.{One as Single}
+use Rattle.wt_grid.specs.declared.axis.Axis.TheVariants.{One, Two}
+use Rattle.wt_grid.specs.declared.axis.Axis.{Axis}
 use Rattle.std.proofs.lemmas.Bool.Decides.{nat_tests}
 use Rattle.std.proofs.lemmas.List.{length-map}
 use Rattle.std.proofs.Math.ListN.{get_or-map}
-use Rattle.wt_tile.specs.declared.tile.Axis.{Axis}
-use Rattle.wt_tile.specs.declared.tile.Axis.TheVariants.{One, Two}
-use Rattle.wt_tile.specs.Matching.{matches, matching, grid_axis}
+use Rattle.wt_tile.specs.Matching.{matches}
 use Rattle.wt_pattern.specs.Patterns.{IsPattern}
 use Rattle.wt_grid.specs.Order.{in_order, is_below, follows}
 use Rattle.wt_grid.proofs.Order.{both}
-use Rattle.wt_grid.specs.Lines.{one, IsImage}
+use Rattle.wt_grid.specs.Lines.{IsImage}
 use Rattle.wt_grid.specs.Grid.{Grid, along, across, lines, of_lines}
-use Rattle.wt_grid.specs.Grid.{Axis as GridAxis, one as first_axis, two as second_axis}
 use Rattle.wt_grid.specs.Parts.{AllBelow}
 use Rattle.wt_grid.specs.Images.{piece_at, is_pair, is_double, image_lines}
 use Rattle.wt_grid.proofs.Grids.{length_lines}
@@ -28,18 +29,17 @@ use Rattle.wt_step.proofs.ImageLaw.{image_valid}
 use Rattle.wt_chain.specs.Turns.{axis_of, image_under}
 use Rattle.wt_step.specs.Meaning.{pieces_of}
 use Rattle.wt_chain.proofs.Grown.{first_fits}
-use Rattle.wt_scale.specs.Scales.{same_grid_axis}
 use Rattle.wt_scale.specs.Existence.{ValidImage}
 
 -- ---- sizes
 
-long_of : (axis : GridAxis) (m : ℕ) (ls : List (List ℕ)) → along axis (of_lines axis m ls) ≡ length ls
-long_of first_axis m ls = refl
-long_of second_axis m ls = refl
+long_of : (axis : Axis) (m : ℕ) (ls : List (List ℕ)) → along axis (of_lines axis m ls) ≡ length ls
+long_of One m ls = refl
+long_of Two m ls = refl
 
-wide_of : (axis : GridAxis) (m : ℕ) (ls : List (List ℕ)) → across axis (of_lines axis m ls) ≡ m
-wide_of first_axis m ls = refl
-wide_of second_axis m ls = refl
+wide_of : (axis : Axis) (m : ℕ) (ls : List (List ℕ)) → across axis (of_lines axis m ls) ≡ m
+wide_of One m ls = refl
+wide_of Two m ls = refl
 
 module _ (l : RawLink) (q : Grid) where
   wide_image : across (axis_of l) (image_under l q) ≡ across (axis_of l) q
@@ -56,9 +56,9 @@ module _ (l : RawLink) (q : Grid) where
       (omega (arith, c.0, n, e), omega (arith, c.1, n, e))
 
 -- an image is no smaller, either way
-no_smaller_along : (axis : GridAxis) (q g : Grid) → across axis g ≡ across axis q → along axis q ≤ along axis g → (q.width ≤ g.width) × (q.height ≤ g.height)
-no_smaller_along first_axis q g a l = (l, omega arith)
-no_smaller_along second_axis q g a l = (omega arith, l)
+no_smaller_along : (axis : Axis) (q g : Grid) → across axis g ≡ across axis q → along axis q ≤ along axis g → (q.width ≤ g.width) × (q.height ≤ g.height)
+no_smaller_along One q g a l = (l, omega arith)
+no_smaller_along Two q g a l = (omega arith, l)
 
 pub no_smaller : (l : RawLink) (q : Grid) → (q.width ≤ (image_under l q).width) × (q.height ≤ (image_under l q).height)
 no_smaller l q = no_smaller_along (axis_of l) q (image_under l q) (wide_image l q) (longer_image l q).0
@@ -66,21 +66,21 @@ no_smaller l q = no_smaller_along (axis_of l) q (image_under l q) (wide_image l 
 -- ---- restrict steps
 
 module _ (s : RawRestrict) (e : link_fault (Restrict s) ≡ None) (g : GoodRestrict s) where
-  kept_piece : (i : ℕ) → piece_at (kept_pieces s) i ≡ one (get_or s.kept i 0)
-  kept_piece i = get_or-map one s.kept i 0
+  kept_piece : (i : ℕ) → piece_at (kept_pieces s) i ≡ Single (get_or s.kept i 0)
+  kept_piece i = get_or-map Single s.kept i 0
 
   kept_count : length (kept_pieces s) ≡ length s.coarse.tiles
   kept_count =
       let b = (both (in_order (is_below (length s.fine.tiles)) follows s.kept) (nat_eq (length s.kept) (length s.coarse.tiles)) g.sorted.kept).1 in
       let n : length s.kept ≡ length s.coarse.tiles = grind (arith, nat_tests, b) in
-      length-map s.kept one ∙ n
+      length-map s.kept Single ∙ n
 
   kept_matches : (axis : Axis) (i j : ℕ) → i < length (kept_pieces s) → j < length (kept_pieces s) → matches s.coarse.tiles axis i j ≡ true → matches s.fine.tiles axis (get_or s.kept i 0) (get_or s.kept j 0) ≡ true
   kept_matches axis i j li lj m = let n = kept_count in sym (g.joins axis i j (omega arith) (omega arith)) ∙ m
 
-  kept_valid : (q : Grid) → IsPattern s.coarse.tiles q → IsPattern s.fine.tiles (image_under (Restrict s) q) × IsImage (kept_pieces s) (lines first_axis q) (lines first_axis (image_under (Restrict s) q))
+  kept_valid : (q : Grid) → IsPattern s.coarse.tiles q → IsPattern s.fine.tiles (image_under (Restrict s) q) × IsImage (kept_pieces s) (lines One q) (lines One (image_under (Restrict s) q))
   kept_valid q p =
-      let r = valid_image first_axis (matching s.fine.tiles) (matching s.coarse.tiles) (kept_pieces s) (length s.fine.tiles)
+      let r = valid_image One (matches s.fine.tiles) (matches s.coarse.tiles) (kept_pieces s) (length s.fine.tiles)
       (λ i j li lj m. rw (kept_piece i, kept_piece j) (kept_matches One i j li lj m))
       (λ i j li lj m. rw (kept_piece i, kept_piece j) (kept_matches Two i j li lj m))
       (λ i li h. absurd (let k = rw (kept_piece i) at h in cc k))
@@ -98,9 +98,9 @@ module _ (s : RawRestrict) (e : link_fault (Restrict s) ≡ None) (g : GoodRestr
 
 -- ---- steps of either kind
 
-same_itself : (axis : GridAxis) → same_grid_axis axis axis ≡ true
-same_itself first_axis = refl
-same_itself second_axis = refl
+same_itself : (axis : Axis) → same_axis axis axis ≡ true
+same_itself One = refl
+same_itself Two = refl
 
 pub link_image : (l : RawLink) → link_fault l ≡ None → (q : Grid) → IsPattern (coarse_of l).tiles q → ValidImage l q
 unfolding link_fault
@@ -112,7 +112,7 @@ link_image (Marker s) e q p =
       as_wide = wide_image (Marker s) q;
       longer = (longer_image (Marker s) q).0;
       twice = (longer_image (Marker s) q).1;
-      single = λ h. absurd (let t = same_itself (grid_axis s.axis) in let f : true ≡ false = sym t ∙ h in cc f);
+      single = λ h. absurd (let t = same_itself s.axis in let f : true ≡ false = sym t ∙ h in cc f);
     }
 link_image (Restrict s) e q p =
     let g = good_restrict s e in
@@ -123,5 +123,5 @@ link_image (Restrict s) e q p =
       as_wide = wide_image (Restrict s) q;
       longer = (longer_image (Restrict s) q).0;
       twice = (longer_image (Restrict s) q).1;
-      single = λ h. long_image (Restrict s) q ∙ (kept_lines s e g (lines first_axis q) ∙ length_lines first_axis q);
+      single = λ h. long_image (Restrict s) q ∙ (kept_lines s e g (lines One q) ∙ length_lines One q);
     }

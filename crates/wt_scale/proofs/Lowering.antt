@@ -1,15 +1,14 @@
 -- A pattern with a period has a coarse pattern with one, for steps of either kind.
 use Rattle.std.proofs.Common.{arith, ◌≡◌, ◌≤◌, ◌<◌, ◌+◌, ◌*◌, ℕ, List, [], ◌∷◌, length, None, Bool, true, false, cond, refl, sym, ap, subst}
+use Rattle.wt_grid.specs.Axes.{same_axis, other}
+use Rattle.wt_grid.specs.declared.image.Image.{Image}
+use Rattle.wt_grid.specs.declared.axis.Axis.TheVariants.{One, Two}
+use Rattle.wt_grid.specs.declared.axis.Axis.{Axis}
 use Rattle.std.proofs.lemmas.List.{append-nil}
-use Rattle.wt_tile.specs.declared.tile.Axis.{Axis}
-use Rattle.wt_tile.specs.declared.tile.Axis.TheVariants.{One, Two}
-use Rattle.wt_tile.specs.Matching.{grid_axis}
 use Rattle.wt_pattern.specs.Patterns.{IsPattern}
-use Rattle.wt_grid.specs.Lines.{Piece, AllLong}
+use Rattle.wt_grid.specs.Lines.{AllLong}
 use Rattle.wt_grid.specs.Grid.{Grid, IsGrid, along, across, lines}
-use Rattle.wt_grid.specs.Grid.{Axis as GridAxis, one as first_axis, two as second_axis}
 use Rattle.wt_grid.specs.Parts.{core}
-use Rattle.wt_grid.specs.Parts.{other as other_grid}
 use Rattle.wt_grid.specs.Shifts.{HasVector}
 use Rattle.wt_grid.specs.Widths.{Stage}
 use Rattle.wt_grid.specs.Traces.{IsStageOf, IsTraced}
@@ -30,16 +29,16 @@ use Rattle.wt_step.specs.declared.raw.RawLink.TheVariants.{Marker, Restrict}
 use Rattle.wt_step.specs.Words.{is_marker}
 use Rattle.wt_step.specs.Good.{GoodStep, GoodRestrict}
 use Rattle.wt_step.specs.Links.{link_fault, fine_of}
-use Rattle.wt_step.specs.Meaning.{line_side, pieces, kept_pieces, cut_core, IsCoarse}
+use Rattle.wt_step.specs.Meaning.{pieces, kept_pieces, cut_core, IsCoarse}
 use Rattle.wt_step.proofs.Goodness.{good_step}
 use Rattle.wt_step.proofs.Restricted.{good_restrict, some_kept}
 use Rattle.wt_step.proofs.Desubstitution.{some_coarse}
-use Rattle.wt_scale.specs.Scales.{Lowered, side_below, same_grid_axis}
+use Rattle.wt_scale.specs.Scales.{Lowered, side_below}
 use Rattle.wt_step.proofs.PeriodLaw.{carried}
 use Rattle.wt_step.proofs.KeptPeriods.{no_pairs, kept_vector}
 
 -- what a marker step along axis x does to a period of d lines along it and e cells across
-record Along (x : GridAxis) (im : List Piece) (p q : Grid) (side : ℕ) (opposed : Bool) (d e : ℕ) : Type 0 where
+record Along (x : Axis) (im : List Image) (p q : Grid) (side : ℕ) (opposed : Bool) (d e : ℕ) : Type 0 where
   count : ℕ
   vector : HasVector x opposed count e q
   shorter : count ≤ d
@@ -47,14 +46,14 @@ record Along (x : GridAxis) (im : List Piece) (p q : Grid) (side : ℕ) (opposed
   long : side ≤ along x q
   wide : side ≤ across x q
   run_along : (s : Stage) (ss : List Stage) (n : ℕ) → IsStageOf true im s → IsTraced x ss n p d → IsTraced x (s ∷ ss) n q count
-  run_across : (s : Stage) (ss : List Stage) (n : ℕ) → IsStageOf false im s → IsTraced (other_grid x) ss n p e → IsTraced (other_grid x) (s ∷ ss) n q e
+  run_across : (s : Stage) (ss : List Stage) (n : ℕ) → IsStageOf false im s → IsTraced (other x) ss n p e → IsTraced (other x) (s ∷ ss) n q e
 
 module _ (s : RawStep) (g : GoodStep s) where
   lower_along : (p q : Grid) (side : ℕ) (opposed : Bool) (d e : ℕ) → IsPattern s.fine.tiles p → IsGrid q → IsCoarse s p q
-      → 2 * side + 2 * s.radius + 2 ≤ along (grid_axis s.axis) p → 2 * side + 2 * s.radius + 2 ≤ across (grid_axis s.axis) p → d + 2 ≤ side → e + 2 ≤ side
-      → HasVector (grid_axis s.axis) opposed d e p → Along (grid_axis s.axis) (pieces s) p q side opposed d e
+      → 2 * side + 2 * s.radius + 2 ≤ along s.axis p → 2 * side + 2 * s.radius + 2 ≤ across s.axis p → d + 2 ≤ side → e + 2 ≤ side
+      → HasVector s.axis opposed d e p → Along s.axis (pieces s) p q side opposed d e
   lower_along p q side opposed d e v iq i la lc ld le h =
-      let a = grid_axis s.axis in
+      let a = s.axis in
       let r = s.radius in
       let c = core r p in
       let ac = along_core a r p in
@@ -64,13 +63,13 @@ module _ (s : RawStep) (g : GoodStep s) where
       let lx : e < across a c = omega arith in
       let k = carried s g p q v iq i opposed d e lw lx h in
       let wide : 1 ≤ across a c = omega arith in
-      let long : AllLong (across a c) L = cut_long (line_side s.side) (across a c) (is_marker s) (lines a c) (long_lines a c) in
-      let stands : StandsIn L (lines a c) = cut_in (line_side s.side) (is_marker s) (lines a c) in
+      let long : AllLong (across a c) L = cut_long s.side (across a c) (is_marker s) (lines a c) (long_lines a c) in
+      let stands : StandsIn L (lines a c) = cut_in s.side (is_marker s) (lines a c) in
       let same = same_across a (pieces s) p q r L iq wide stands i long in
       let lq = long_coarse (pieces s) (across a c) (lines a q) L i long in
       let found = image_found (pieces s) (across a c) (lines a q) L wide lq i in
       let count = image_count (pieces s) (lines a q) in
-      let nl = cut_length (line_side s.side) (is_marker s) (lines a c) in
+      let nl = cut_length s.side (is_marker s) (lines a c) in
       let nc = length_lines a c in
       let nq = length_lines a q in
       let el = ap length found.0 in
@@ -87,13 +86,13 @@ module _ (s : RawStep) (g : GoodStep s) where
 
   -- the coarse pattern, where the step's axis is known
   marker_one : s.axis ≡ One → (p : Grid) (side : ℕ) (opposed : Bool) (dx dy : ℕ) → IsPattern s.fine.tiles p → side_below (Marker s) side ≤ p.width → side_below (Marker s) side ≤ p.height
-      → dx + 2 ≤ side → dy + 2 ≤ side → HasVector first_axis opposed dx dy p → Lowered (Marker s) p side opposed dx dy
+      → dx + 2 ≤ side → dy + 2 ≤ side → HasVector One opposed dx dy p → Lowered (Marker s) p side opposed dx dy
   marker_one ax p side opposed dx dy v lw lh lx ly h =
-      let x : grid_axis s.axis ≡ first_axis = ap grid_axis ax in
-      let a = grid_axis s.axis in
-      let P : GridAxis → Type 0 = λ y. HasVector y opposed dx dy p in
-      let la : side_below (Marker s) side ≤ along a p = subst (λ (y : GridAxis). side_below (Marker s) side ≤ along y p) (sym x) lw in
-      let lc : side_below (Marker s) side ≤ across a p = subst (λ (y : GridAxis). side_below (Marker s) side ≤ across y p) (sym x) lh in
+      let x : s.axis ≡ One = ax in
+      let a = s.axis in
+      let P : Axis → Type 0 = λ y. HasVector y opposed dx dy p in
+      let la : side_below (Marker s) side ≤ along a p = subst (λ (y : Axis). side_below (Marker s) side ≤ along y p) (sym x) lw in
+      let lc : side_below (Marker s) side ≤ across a p = subst (λ (y : Axis). side_below (Marker s) side ≤ across y p) (sym x) lh in
       let ac = along_core a s.radius p in
       let xc = across_core a s.radius p in
       let q = some_coarse s g p v (omega arith) (omega arith) in
@@ -102,58 +101,58 @@ module _ (s : RawStep) (g : GoodStep s) where
         coarse = q.0;
         image = q.1;
         pattern = q.2;
-        wide = subst (λ (y : GridAxis). side ≤ along y q.0) x k.long;
-        high = subst (λ (y : GridAxis). side ≤ across y q.0) x k.wide;
+        wide = subst (λ (y : Axis). side ≤ along y q.0) x k.long;
+        high = subst (λ (y : Axis). side ≤ across y q.0) x k.wide;
         right = k.count;
         up = dy;
-        vector = subst (λ (y : GridAxis). HasVector y opposed k.count dy q.0) x k.vector;
+        vector = subst (λ (y : Axis). HasVector y opposed k.count dy q.0) x k.vector;
         right_shorter = k.shorter;
         up_shorter = omega arith;
         right_half = k.half;
         up_half = omega arith;
         right_runs = λ t ss n st tr.
-            subst (λ (y : GridAxis). IsTraced y (t ∷ ss) n q.0 k.count) x
-            (k.run_along t ss n (subst (λ (y : GridAxis). IsStageOf (same_grid_axis first_axis y) (pieces s) t) x st) (subst (λ (y : GridAxis). IsTraced y ss n p dx) (sym x) tr));
+            subst (λ (y : Axis). IsTraced y (t ∷ ss) n q.0 k.count) x
+            (k.run_along t ss n (subst (λ (y : Axis). IsStageOf (same_axis One y) (pieces s) t) x st) (subst (λ (y : Axis). IsTraced y ss n p dx) (sym x) tr));
         up_runs = λ t ss n st tr.
-            subst (λ (y : GridAxis). IsTraced (other_grid y) (t ∷ ss) n q.0 dy) x
-            (k.run_across t ss n (subst (λ (y : GridAxis). IsStageOf (same_grid_axis second_axis y) (pieces s) t) x st) (subst (λ (y : GridAxis). IsTraced (other_grid y) ss n p dy) (sym x) tr));
+            subst (λ (y : Axis). IsTraced (other y) (t ∷ ss) n q.0 dy) x
+            (k.run_across t ss n (subst (λ (y : Axis). IsStageOf (same_axis Two y) (pieces s) t) x st) (subst (λ (y : Axis). IsTraced (other y) ss n p dy) (sym x) tr));
       }
 
   marker_two : s.axis ≡ Two → (p : Grid) (side : ℕ) (opposed : Bool) (dx dy : ℕ) → IsPattern s.fine.tiles p → side_below (Marker s) side ≤ p.width → side_below (Marker s) side ≤ p.height
-      → dx + 2 ≤ side → dy + 2 ≤ side → HasVector first_axis opposed dx dy p → Lowered (Marker s) p side opposed dx dy
+      → dx + 2 ≤ side → dy + 2 ≤ side → HasVector One opposed dx dy p → Lowered (Marker s) p side opposed dx dy
   marker_two ax p side opposed dx dy v lw lh lx ly h =
-      let x : grid_axis s.axis ≡ second_axis = ap grid_axis ax in
-      let a = grid_axis s.axis in
-      let P : GridAxis → Type 0 = λ y. HasVector y opposed dy dx p in
-      let la : side_below (Marker s) side ≤ along a p = subst (λ (y : GridAxis). side_below (Marker s) side ≤ along y p) (sym x) lh in
-      let lc : side_below (Marker s) side ≤ across a p = subst (λ (y : GridAxis). side_below (Marker s) side ≤ across y p) (sym x) lw in
+      let x : s.axis ≡ Two = ax in
+      let a = s.axis in
+      let P : Axis → Type 0 = λ y. HasVector y opposed dy dx p in
+      let la : side_below (Marker s) side ≤ along a p = subst (λ (y : Axis). side_below (Marker s) side ≤ along y p) (sym x) lh in
+      let lc : side_below (Marker s) side ≤ across a p = subst (λ (y : Axis). side_below (Marker s) side ≤ across y p) (sym x) lw in
       let ac = along_core a s.radius p in
       let xc = across_core a s.radius p in
       let q = some_coarse s g p v (omega arith) (omega arith) in
-      let k = lower_along p q.0 side opposed dy dx v q.2.0 q.1 la lc ly lx (subst P (sym x) (other_vector first_axis opposed dx dy p h)) in
+      let k = lower_along p q.0 side opposed dy dx v q.2.0 q.1 la lc ly lx (subst P (sym x) (other_vector One opposed dx dy p h)) in
       record {
         coarse = q.0;
         image = q.1;
         pattern = q.2;
-        wide = subst (λ (y : GridAxis). side ≤ across y q.0) x k.wide;
-        high = subst (λ (y : GridAxis). side ≤ along y q.0) x k.long;
+        wide = subst (λ (y : Axis). side ≤ across y q.0) x k.wide;
+        high = subst (λ (y : Axis). side ≤ along y q.0) x k.long;
         right = dx;
         up = k.count;
-        vector = other_vector second_axis opposed k.count dx q.0 (subst (λ (y : GridAxis). HasVector y opposed k.count dx q.0) x k.vector);
+        vector = other_vector Two opposed k.count dx q.0 (subst (λ (y : Axis). HasVector y opposed k.count dx q.0) x k.vector);
         right_shorter = omega arith;
         up_shorter = k.shorter;
         right_half = omega arith;
         up_half = k.half;
         right_runs = λ t ss n st tr.
-            subst (λ (y : GridAxis). IsTraced (other_grid y) (t ∷ ss) n q.0 dx) x
-            (k.run_across t ss n (subst (λ (y : GridAxis). IsStageOf (same_grid_axis first_axis y) (pieces s) t) x st) (subst (λ (y : GridAxis). IsTraced (other_grid y) ss n p dx) (sym x) tr));
+            subst (λ (y : Axis). IsTraced (other y) (t ∷ ss) n q.0 dx) x
+            (k.run_across t ss n (subst (λ (y : Axis). IsStageOf (same_axis One y) (pieces s) t) x st) (subst (λ (y : Axis). IsTraced (other y) ss n p dx) (sym x) tr));
         up_runs = λ t ss n st tr.
-            subst (λ (y : GridAxis). IsTraced y (t ∷ ss) n q.0 k.count) x
-            (k.run_along t ss n (subst (λ (y : GridAxis). IsStageOf (same_grid_axis second_axis y) (pieces s) t) x st) (subst (λ (y : GridAxis). IsTraced y ss n p dy) (sym x) tr));
+            subst (λ (y : Axis). IsTraced y (t ∷ ss) n q.0 k.count) x
+            (k.run_along t ss n (subst (λ (y : Axis). IsStageOf (same_axis Two y) (pieces s) t) x st) (subst (λ (y : Axis). IsTraced y ss n p dy) (sym x) tr));
       }
 
   marker_lowered : (ax : Axis) → s.axis ≡ ax → (p : Grid) (side : ℕ) (opposed : Bool) (dx dy : ℕ) → IsPattern s.fine.tiles p → side_below (Marker s) side ≤ p.width → side_below (Marker s) side ≤ p.height
-      → dx + 2 ≤ side → dy + 2 ≤ side → HasVector first_axis opposed dx dy p → Lowered (Marker s) p side opposed dx dy
+      → dx + 2 ≤ side → dy + 2 ≤ side → HasVector One opposed dx dy p → Lowered (Marker s) p side opposed dx dy
   marker_lowered One ax = marker_one ax
   marker_lowered Two ax = marker_two ax
 
@@ -164,13 +163,13 @@ module _ (s : RawRestrict) (g : GoodRestrict s) where
   whole_in ls = ([], [], sym (append-nil ls))
 
   restrict_lowered : (p : Grid) (side : ℕ) (opposed : Bool) (dx dy : ℕ) → IsPattern s.fine.tiles p → side_below (Restrict s) side ≤ p.width → side_below (Restrict s) side ≤ p.height
-      → dx + 2 ≤ side → dy + 2 ≤ side → HasVector first_axis opposed dx dy p → Lowered (Restrict s) p side opposed dx dy
+      → dx + 2 ≤ side → dy + 2 ≤ side → HasVector One opposed dx dy p → Lowered (Restrict s) p side opposed dx dy
   restrict_lowered p side opposed dx dy v lw lh lx ly h =
       let r = s.radius in
       let c = core r p in
       let q = some_kept s g p v (omega arith) (omega arith) in
-      let st = cells_stand (kept_pieces s) first_axis q.0 c (no_pairs s g) q.2.0 (omega arith) q.1 in
-      let tw = stand_image (kept_pieces s) second_axis q.0 c (stand_other (kept_pieces s) first_axis q.0 c st) in
+      let st = cells_stand (kept_pieces s) One q.0 c (no_pairs s g) q.2.0 (omega arith) q.1 in
+      let tw = stand_image (kept_pieces s) Two q.0 c (stand_other (kept_pieces s) One q.0 c st) in
       let w = st.0 in let t = st.1 in
       record {
         coarse = q.0;
@@ -180,18 +179,18 @@ module _ (s : RawRestrict) (g : GoodRestrict s) where
         high = omega arith;
         right = dx;
         up = dy;
-        vector = kept_vector s g c q.0 dx (cond opposed dy 0) (cond opposed 0 dy) st (core_repeated first_axis r dx (cond opposed dy 0) (cond opposed 0 dy) p h);
+        vector = kept_vector s g c q.0 dx (cond opposed dy 0) (cond opposed 0 dy) st (core_repeated One r dx (cond opposed dy 0) (cond opposed 0 dy) p h);
         right_shorter = omega arith;
         up_shorter = omega arith;
         right_half = omega arith;
         up_half = omega arith;
-        right_runs = λ t' ss n sg tr. traced_across second_axis (kept_pieces s) p q.0 r (lines second_axis c) q.2.0 (omega arith) (whole_in (lines second_axis c)) tw (long_lines second_axis c) t' ss n dx sg tr;
-        up_runs = λ t' ss n sg tr. traced_across first_axis (kept_pieces s) p q.0 r (lines first_axis c) q.2.0 (omega arith) (whole_in (lines first_axis c)) q.1 (long_lines first_axis c) t' ss n dy sg tr;
+        right_runs = λ t' ss n sg tr. traced_across Two (kept_pieces s) p q.0 r (lines Two c) q.2.0 (omega arith) (whole_in (lines Two c)) tw (long_lines Two c) t' ss n dx sg tr;
+        up_runs = λ t' ss n sg tr. traced_across One (kept_pieces s) p q.0 r (lines One c) q.2.0 (omega arith) (whole_in (lines One c)) q.1 (long_lines One c) t' ss n dy sg tr;
       }
 
 -- A pattern with a period, and a step of either kind.
 pub lowered : (l : RawLink) → link_fault l ≡ None → (p : Grid) (side : ℕ) (opposed : Bool) (dx dy : ℕ) → IsPattern (fine_of l).tiles p → side_below l side ≤ p.width → side_below l side ≤ p.height
-    → dx + 2 ≤ side → dy + 2 ≤ side → HasVector first_axis opposed dx dy p → Lowered l p side opposed dx dy
+    → dx + 2 ≤ side → dy + 2 ≤ side → HasVector One opposed dx dy p → Lowered l p side opposed dx dy
 unfolding link_fault
 lowered (Marker s) e = marker_lowered s (good_step s e) s.axis refl
 lowered (Restrict s) e = restrict_lowered s (good_restrict s e)

@@ -1,15 +1,14 @@
 -- No vector is a period of a large valid pattern over the first set of a looped chain.
 use Rattle.std.proofs.Common.{arith, ◌≡◌, ◌⊎◌, ◌≤◌, ◌<◌, ◌+◌, ◌*◌, ◌^◌, ℕ, zero, suc, ℤ, List, [], ◌∷◌, ◌++◌, length, take, drop, Bool, refl, sym, ◌∙◌, ap, subst, inl, inr}
+use Rattle.wt_grid.specs.declared.axis.Axis.TheVariants.{One, Two}
 use Rattle.std.proofs.lemmas.List.{take-append-drop}
 use Rattle.std.proofs.Math.Nat.{pow-succ'}
 use Rattle.wt_tile.specs.declared.tile.Tile.{Tile}
 use Rattle.wt_tile.specs.declared.tile.TileList.{TileList}
-use Rattle.wt_tile.specs.declared.tile.Axis.TheVariants.{One, Two}
 use Rattle.wt_bijection.specs.Carried.{IsRenaming}
 use Rattle.wt_pattern.specs.Patterns.{IsPattern}
 use Rattle.wt_pattern.specs.Periods.{IsPeriod}
 use Rattle.wt_grid.specs.Grid.{Grid, at, listed}
-use Rattle.wt_grid.specs.Grid.{one as first_axis, two as second_axis}
 use Rattle.wt_grid.specs.Shifts.{HasVector}
 use Rattle.wt_grid.specs.Widths.{Stage, total, width}
 use Rattle.wt_grid.specs.Traces.{segment}
@@ -38,16 +37,16 @@ module _ (ts : List Tile) (rows columns : List Stage) (grow_wide : (t : ℕ) →
   right_halves side opposed d e ld le s =
       let a = s.right_most in let w = s.wide in let h = s.high in
       let r = s.right_runs 0 0 (omega arith) (omega arith) in
-      let l = length_last rows (segment first_axis s.grid 0 0 s.right) in
-      let t = twice (width rows) (length ts) grow_wide s.right (λ k. at first_axis s.grid (0 + k) 0) (λ k lk. s.pattern.1 (0 + k) 0 (omega arith) (omega arith)) in
+      let l = length_last rows (segment One s.grid 0 0 s.right) in
+      let t = twice (width rows) (length ts) grow_wide s.right (λ k. at One s.grid (0 + k) 0) (λ k lk. s.pattern.1 (0 + k) 0 (omega arith) (omega arith)) in
       omega (arith, r, l, t)
 
   up_halves : (side : ℕ) (opposed : Bool) (d e : ℕ) → d + 2 ≤ side → e + 2 ≤ side → (s : Standing ts side opposed rows columns d e) → s.up + s.up ≤ e
   up_halves side opposed d e ld le s =
       let a = s.up_most in let w = s.wide in let h = s.high in
       let r = s.up_runs 0 0 (omega arith) (omega arith) in
-      let l = length_last columns (segment second_axis s.grid 0 0 s.up) in
-      let t = twice (width columns) (length ts) grow_high s.up (λ k. at second_axis s.grid (0 + k) 0) (λ k lk. s.pattern.1 0 (0 + k) (omega arith) (omega arith)) in
+      let l = length_last columns (segment Two s.grid 0 0 s.up) in
+      let t = twice (width columns) (length ts) grow_high s.up (λ k. at Two s.grid (0 + k) 0) (λ k lk. s.pattern.1 0 (0 + k) (omega arith) (omega arith)) in
       omega (arith, r, l, t)
 
 -- sizes of turns add up
@@ -112,7 +111,7 @@ loop_outgrows l ls list e linked ren grows k m opposed d c ld lc lm some s =
     let r = outgrown l ls list e linked ren grows k (m + 2) opposed d c (omega arith) (omega arith) s in
     elim some [ inl h ↦ (let x = r.0 h in omega arith) | inr h ↦ (let x = r.1 h in omega arith) ]
 
-started : (ts : List Tile) (side : ℕ) (opposed : Bool) (d c : ℕ) (p : Grid) → IsPattern ts p → side ≤ p.width → side ≤ p.height → HasVector first_axis opposed d c p → Standing ts side opposed [] [] d c
+started : (ts : List Tile) (side : ℕ) (opposed : Bool) (d c : ℕ) (p : Grid) → IsPattern ts p → side ≤ p.width → side ≤ p.height → HasVector One opposed d c p → Standing ts side opposed [] [] d c
 started ts side opposed d c p v w h x = record {
   grid = p;
   pattern = v;
@@ -162,7 +161,7 @@ pub no_period : (c : RawChain) → GoodChain c → (start e : ℕ) (list : List 
 no_period c good start e list end first rest steps x y m k lx ly lm some p v w h period =
     let linked = run_is_linked first rest c.steps steps good.run in
     let loop : GoodLoop (drop start (first ∷ rest)) list e = subst (λ (xs : List RawLink). GoodLoop (drop start xs) list e) steps (subst (λ (z : _). GoodEnd c.steps z) end good.end) in
-    let vec = to_vector first_axis p x y period in
+    let vec = to_vector One p x y period in
     let opposed = are_opposed x y in
     let size : ℕ = size_of (first ∷ rest) start e k m in
     let w' : size ≤ p.width = subst (λ (xs : List RawLink). size_of xs start e k m ≤ p.width) steps w in

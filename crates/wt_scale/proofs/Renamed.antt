@@ -1,14 +1,13 @@
 -- Patterns whose tiles are renamed.
 use Rattle.std.proofs.Common.{arith, ◌≡◌, ◌≤◌, ◌<◌, ◌+◌, ℕ, zero, suc, List, [], ◌∷◌, length, get_or, Bool, true, false, nat_eq, refl, sym, ◌∙◌, ap}
+use Rattle.wt_grid.specs.declared.axis.Axis.TheVariants.{One, Two}
+use Rattle.wt_grid.specs.declared.axis.Axis.{Axis}
 use Rattle.std.proofs.lemmas.Bool.Decides.{nat_tests}
 use Rattle.wt_tile.specs.declared.tile.Tile.{Tile}
-use Rattle.wt_tile.specs.declared.tile.Axis.{Axis}
-use Rattle.wt_tile.specs.declared.tile.Axis.TheVariants.{One, Two}
-use Rattle.wt_tile.specs.Matching.{matches, matching, tile_at, tile_axis}
+use Rattle.wt_tile.specs.Matching.{matches, tile_at}
 use Rattle.wt_bijection.specs.Carried.{IsRenaming}
 use Rattle.wt_pattern.specs.Patterns.{IsPattern}
 use Rattle.wt_grid.specs.Grid.{Grid, IsGrid, cell, along, across, at, grid_of}
-use Rattle.wt_grid.specs.Grid.{Axis as GridAxis, one as first_axis, two as second_axis}
 use Rattle.wt_grid.specs.Shifts.{IsRepeated}
 use Rattle.wt_grid.specs.Widths.{Stage, next_row, last_row}
 use Rattle.wt_grid.specs.Traces.{segment, IsTraced}
@@ -72,21 +71,21 @@ module _ (from to : List Tile) (list : List ℕ) (ren : IsRenaming from to list)
     unfolding renamed
     renamed_cell x y lx ly = cell_of g.width g.height x y (λ x y. get_or list (cell g x y) 0) lx ly
 
-    pub renamed_at : (axis : GridAxis) (i j : ℕ) → i < along axis g → j < across axis g → at axis renamed i j ≡ get_or list (at axis g i j) 0
-    renamed_at first_axis i j li lj = renamed_cell i j li lj
-    renamed_at second_axis i j li lj = renamed_cell j i lj li
+    pub renamed_at : (axis : Axis) (i j : ℕ) → i < along axis g → j < across axis g → at axis renamed i j ≡ get_or list (at axis g i j) 0
+    renamed_at One i j li lj = renamed_cell i j li lj
+    renamed_at Two i j li lj = renamed_cell j i lj li
 
-    pub renamed_along : (axis : GridAxis) → along axis renamed ≡ along axis g
-    renamed_along first_axis = renamed_width
-    renamed_along second_axis = renamed_height
+    pub renamed_along : (axis : Axis) → along axis renamed ≡ along axis g
+    renamed_along One = renamed_width
+    renamed_along Two = renamed_height
 
-    pub renamed_across : (axis : GridAxis) → across axis renamed ≡ across axis g
-    renamed_across first_axis = renamed_height
-    renamed_across second_axis = renamed_width
+    pub renamed_across : (axis : Axis) → across axis renamed ≡ across axis g
+    renamed_across One = renamed_height
+    renamed_across Two = renamed_width
 
-    below : (axis : GridAxis) (i j : ℕ) → i < along axis g → j < across axis g → at axis g i j < length from
-    below first_axis i j li lj = p.1 i j li lj
-    below second_axis i j li lj = p.1 j i lj li
+    below : (axis : Axis) (i j : ℕ) → i < along axis g → j < across axis g → at axis g i j < length from
+    below One i j li lj = p.1 i j li lj
+    below Two i j li lj = p.1 j i lj li
 
     renamed_grid : IsGrid renamed
     unfolding renamed
@@ -100,25 +99,25 @@ module _ (from to : List Tile) (list : List ℕ) (ren : IsRenaming from to list)
             let w = renamed_width in let h = renamed_height in
             rw (renamed_cell x y (omega arith) (omega arith)) (ren.inside (cell g x y) (p.1 x y (omega arith) (omega arith)))
 
-        valid : (axis : GridAxis) (i j : ℕ) → suc i < along axis renamed → j < across axis renamed → matching to axis (at axis renamed i j) (at axis renamed (suc i) j) ≡ true
+        valid : (axis : Axis) (i j : ℕ) → suc i < along axis renamed → j < across axis renamed → matches to axis (at axis renamed i j) (at axis renamed (suc i) j) ≡ true
         valid axis i j li lj =
             let a = renamed_along axis in let b = renamed_across axis in
             rw (renamed_at axis i j (omega arith) (omega arith), renamed_at axis (suc i) j (omega arith) (omega arith))
-            (keeps_matching (tile_axis axis) (at axis g i j) (at axis g (suc i) j) (below axis i j (omega arith) (omega arith)) (below axis (suc i) j (omega arith) (omega arith)) (p.2 axis i j (omega arith) (omega arith)))
+            (keeps_matching axis (at axis g i j) (at axis g (suc i) j) (below axis i j (omega arith) (omega arith)) (below axis (suc i) j (omega arith) (omega arith)) (p.2 axis i j (omega arith) (omega arith)))
 
-    pub renamed_repeats : (axis : GridAxis) (d a b : ℕ) → IsRepeated axis d a b g → IsRepeated axis d a b renamed
+    pub renamed_repeats : (axis : Axis) (d a b : ℕ) → IsRepeated axis d a b g → IsRepeated axis d a b renamed
     renamed_repeats axis d a b h i j li la lb =
         let x = renamed_along axis in let y = renamed_across axis in
         renamed_at axis i (j + a) (omega arith) (omega arith)
         ∙ (ap (λ (t : ℕ). get_or list t 0) (h i j (omega arith) (omega arith) (omega arith)) ∙ sym (renamed_at axis (i + d) (j + b) (omega arith) (omega arith)))
 
-    renamed_row : (axis : GridAxis) (i j n : ℕ) → i + n ≤ along axis g → j < across axis g → next_row (renaming_stage list) (segment axis renamed i j n) ≡ segment axis g i j n
+    renamed_row : (axis : Axis) (i j n : ℕ) → i + n ≤ along axis g → j < across axis g → next_row (renaming_stage list) (segment axis renamed i j n) ≡ segment axis g i j n
     renamed_row axis i j n le lt =
         listed_map (λ t. origin list t) n (λ k. at axis renamed (i + k) j)
         ∙ listed_same n (λ k. origin list (at axis renamed (i + k) j)) (λ k. at axis g (i + k) j) (λ k lk.
         ap (origin list) (renamed_at axis (i + k) j (omega arith) lt) ∙ origin_back (at axis g (i + k) j) (below axis (i + k) j (omega arith) lt))
 
-    pub renamed_traced : (axis : GridAxis) (ss : List Stage) (d0 d : ℕ) → IsTraced axis ss d0 g d → IsTraced axis (renaming_stage list ∷ ss) d0 renamed d
+    pub renamed_traced : (axis : Axis) (ss : List Stage) (d0 d : ℕ) → IsTraced axis ss d0 g d → IsTraced axis (renaming_stage list ∷ ss) d0 renamed d
     renamed_traced axis ss d0 d h i j le lt =
         let x = renamed_along axis in let y = renamed_across axis in
         ap (λ (row : List ℕ). length (last_row ss row)) (renamed_row axis i j d (omega arith) (omega arith)) ∙ h i j (omega arith) (omega arith)

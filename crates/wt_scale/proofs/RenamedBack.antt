@@ -1,14 +1,13 @@
 -- Patterns over the set that a renaming leads to, renamed back.
 use Rattle.std.proofs.Common.{arith, ◌≡◌, ◌<◌, ℕ, suc, List, length, get_or, true, refl, sym, ◌∙◌, ap}
+use Rattle.wt_grid.specs.declared.axis.Axis.TheVariants.{One, Two}
+use Rattle.wt_grid.specs.declared.axis.Axis.{Axis}
 use Rattle.std.proofs.lemmas.Bool.Decides.{nat_tests}
 use Rattle.wt_tile.specs.declared.tile.Tile.{Tile}
-use Rattle.wt_tile.specs.declared.tile.Axis.{Axis}
-use Rattle.wt_tile.specs.declared.tile.Axis.TheVariants.{One, Two}
-use Rattle.wt_tile.specs.Matching.{matches, matching, tile_at, tile_axis}
+use Rattle.wt_tile.specs.Matching.{matches, tile_at}
 use Rattle.wt_bijection.specs.Carried.{IsRenaming}
 use Rattle.wt_pattern.specs.Patterns.{IsPattern}
 use Rattle.wt_grid.specs.Grid.{Grid, cell, along, across, at}
-use Rattle.wt_grid.specs.Grid.{Axis as GridAxis, one as first_axis, two as second_axis}
 use Rattle.wt_grid.specs.Parts.{AllBelow}
 use Rattle.wt_grid.proofs.Bridge.{cell_of}
 use Rattle.wt_grid.proofs.Parts.{grid_grid}
@@ -47,30 +46,30 @@ module _ (from to : List Tile) (list : List ℕ) (ren : IsRenaming from to list)
       grind (arith, nat_tests, f)
 
   module _ (g : Grid) (p : IsPattern to g) where
-    back_at : (axis : GridAxis) (i j : ℕ) → i < along axis g → j < across axis g → at axis (renamed_back list g) i j ≡ origin list (at axis g i j)
-    back_at first_axis i j li lj = cell_of g.width g.height i j (λ x y. origin list (cell g x y)) li lj
-    back_at second_axis i j li lj = cell_of g.width g.height j i (λ x y. origin list (cell g x y)) lj li
+    back_at : (axis : Axis) (i j : ℕ) → i < along axis g → j < across axis g → at axis (renamed_back list g) i j ≡ origin list (at axis g i j)
+    back_at One i j li lj = cell_of g.width g.height i j (λ x y. origin list (cell g x y)) li lj
+    back_at Two i j li lj = cell_of g.width g.height j i (λ x y. origin list (cell g x y)) lj li
 
-    tile_below : (axis : GridAxis) (i j : ℕ) → i < along axis g → j < across axis g → at axis g i j < length to
-    tile_below first_axis i j li lj = p.1 i j li lj
-    tile_below second_axis i j li lj = p.1 j i lj li
+    tile_below : (axis : Axis) (i j : ℕ) → i < along axis g → j < across axis g → at axis g i j < length to
+    tile_below One i j li lj = p.1 i j li lj
+    tile_below Two i j li lj = p.1 j i lj li
 
-    back_along : (axis : GridAxis) → along axis (renamed_back list g) ≡ along axis g
-    back_along first_axis = refl
-    back_along second_axis = refl
+    back_along : (axis : Axis) → along axis (renamed_back list g) ≡ along axis g
+    back_along One = refl
+    back_along Two = refl
 
-    back_across : (axis : GridAxis) → across axis (renamed_back list g) ≡ across axis g
-    back_across first_axis = refl
-    back_across second_axis = refl
+    back_across : (axis : Axis) → across axis (renamed_back list g) ≡ across axis g
+    back_across One = refl
+    back_across Two = refl
 
     back_below : AllBelow (length from) (renamed_back list g)
-    back_below x y lx ly = rw (back_at first_axis x y lx ly) (origin_of (cell g x y) (p.1 x y lx ly)).0
+    back_below x y lx ly = rw (back_at One x y lx ly) (origin_of (cell g x y) (p.1 x y lx ly)).0
 
-    back_valid : (axis : GridAxis) (i j : ℕ) → suc i < along axis (renamed_back list g) → j < across axis (renamed_back list g) → matching from axis (at axis (renamed_back list g) i j) (at axis (renamed_back list g) (suc i) j) ≡ true
+    back_valid : (axis : Axis) (i j : ℕ) → suc i < along axis (renamed_back list g) → j < across axis (renamed_back list g) → matches from axis (at axis (renamed_back list g) i j) (at axis (renamed_back list g) (suc i) j) ≡ true
     back_valid axis i j li lj =
         let a = back_along axis in let b = back_across axis in
         rw (back_at axis i j (omega arith) (omega arith), back_at axis (suc i) j (omega arith) (omega arith))
-        (back_matches (tile_axis axis) (at axis g i j) (at axis g (suc i) j) (tile_below axis i j (omega arith) (omega arith)) (tile_below axis (suc i) j (omega arith) (omega arith)) (p.2 axis i j (omega arith) (omega arith)))
+        (back_matches axis (at axis g i j) (at axis g (suc i) j) (tile_below axis i j (omega arith) (omega arith)) (tile_below axis (suc i) j (omega arith) (omega arith)) (p.2 axis i j (omega arith) (omega arith)))
 
   pub renamed_back_valid : (g : Grid) → IsPattern to g → SameSized from g (renamed_back list g)
   renamed_back_valid g p = record {

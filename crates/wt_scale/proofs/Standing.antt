@@ -1,18 +1,16 @@
 -- Patterns with a period, followed up through steps and turns of a loop.
 use Rattle.std.proofs.Common.{arith, ◌≡◌, ◌≤◌, ◌+◌, ℕ, zero, suc, List, [], ◌∷◌, None, Bool, refl, sym, ◌∙◌, ap, subst}
+use Rattle.wt_grid.specs.Axes.{same_axis}
+use Rattle.wt_grid.specs.declared.image.Image.TheVariants.{One as Single, Two as Double}
+use Rattle.wt_grid.specs.declared.image.Image.{Image}
+use Rattle.wt_grid.specs.declared.axis.Axis.TheVariants.{One, Two}
+use Rattle.wt_grid.specs.declared.axis.Axis.{Axis}
 use Rattle.std.proofs.Math.ListN.{get_or-map}
 use Rattle.wt_tile.specs.declared.tile.Tile.{Tile}
 use Rattle.wt_tile.specs.declared.tile.TileList.{TileList}
-use Rattle.wt_tile.specs.declared.tile.Axis.{Axis}
-use Rattle.wt_tile.specs.declared.tile.Axis.TheVariants.{One, Two}
-use Rattle.wt_tile.specs.Matching.{same_axis, grid_axis}
 use Rattle.wt_bijection.specs.Carried.{IsRenaming}
 use Rattle.wt_pattern.specs.Patterns.{IsPattern}
-use Rattle.wt_morphism.specs.declared.image.Image.{Image}
-use Rattle.wt_morphism.specs.declared.image.Image.TheVariants.{One as Single, Two as Double}
-use Rattle.wt_grid.specs.Lines.{one}
 use Rattle.wt_grid.specs.Grid.{Grid}
-use Rattle.wt_grid.specs.Grid.{one as first_axis, two as second_axis}
 use Rattle.wt_grid.specs.Shifts.{HasVector}
 use Rattle.wt_grid.specs.Widths.{Stage}
 use Rattle.wt_grid.specs.Images.{first_tile}
@@ -25,8 +23,8 @@ use Rattle.wt_step.specs.Words.{image_at}
 use Rattle.wt_morphism.specs.Images.{piece}
 use Rattle.wt_step.specs.Meaning.{pieces_of}
 use Rattle.wt_chain.specs.Sets.{last_set, AreLinked}
-use Rattle.wt_chain.specs.Growth.{tiles_of, first_of, stage, renaming_stage, stages, turn, turns}
-use Rattle.wt_scale.specs.Scales.{lies_along, same_grid_axis, side_below}
+use Rattle.wt_chain.specs.Growth.{stage, renaming_stage, stages, turn, turns, is_along}
+use Rattle.wt_scale.specs.Scales.{side_below}
 use Rattle.wt_scale.specs.Sizes.{size_from, turns_size}
 use Rattle.wt_scale.proofs.Lowering.{lowered}
 use Rattle.wt_scale.proofs.Renamed.{renamed, renamed_width, renamed_height, renamed_pattern, renamed_repeats, renamed_traced}
@@ -39,31 +37,31 @@ pub record Standing (ts : List Tile) (side : ℕ) (opposed : Bool) (rows columns
   pub high : side ≤ grid.height
   pub right : ℕ
   pub up : ℕ
-  pub vector : HasVector first_axis opposed right up grid
+  pub vector : HasVector One opposed right up grid
   pub right_most : right ≤ d
   pub up_most : up ≤ e
   pub right_some : 1 ≤ d → 1 ≤ right
   pub up_some : 1 ≤ e → 1 ≤ up
-  pub right_runs : IsTraced first_axis rows d grid right
-  pub up_runs : IsTraced second_axis columns e grid up
+  pub right_runs : IsTraced One rows d grid right
+  pub up_runs : IsTraced Two columns e grid up
 
 -- ---- the stages of a step are those of its pieces
 
-tiles_same : (x : Image) → tiles_of x ≡ piece_tiles (piece x)
+tiles_same : (x : Image) → piece_tiles x ≡ piece_tiles (piece x)
 tiles_same (Single a) = refl
 tiles_same (Double a b) = refl
 
-first_same : (x : Image) → first_of x ≡ first_tile (piece x)
+first_same : (x : Image) → first_tile x ≡ first_tile (piece x)
 first_same (Single a) = refl
 first_same (Double a b) = refl
 
-axis_same : (x y : Axis) → same_axis x y ≡ same_grid_axis (grid_axis x) (grid_axis y)
+axis_same : (x y : Axis) → same_axis x y ≡ same_axis x y
 axis_same One One = refl
 axis_same One Two = refl
 axis_same Two One = refl
 axis_same Two Two = refl
 
-stage_of : (axis : Axis) (l : RawLink) → IsStageOf (lies_along (grid_axis axis) l) (pieces_of l) (stage axis l)
+stage_of : (axis : Axis) (l : RawLink) → IsStageOf (is_along axis l) (pieces_of l) (stage axis l)
 stage_of axis (Marker s) = record {
   axis = axis_same axis s.axis;
   pieces = λ t. tiles_same (image_at s t) ∙ ap piece_tiles (sym (get_or-map piece s.images t (Single 0)));
@@ -71,8 +69,8 @@ stage_of axis (Marker s) = record {
 }
 stage_of axis (Restrict s) = record {
   axis = refl;
-  pieces = λ t. ap piece_tiles (sym (get_or-map one s.kept t 0));
-  first = λ t. ap first_tile (sym (get_or-map one s.kept t 0));
+  pieces = λ t. ap piece_tiles (sym (get_or-map Single s.kept t 0));
+  first = λ t. ap first_tile (sym (get_or-map Single s.kept t 0));
 }
 
 -- ---- up a step, up several, over a renaming, round a loop
@@ -135,13 +133,13 @@ rename_up from to list ren side opposed rows columns d e s =
       high = omega arith;
       right = s.right;
       up = s.up;
-      vector = renamed_repeats from to list ren s.grid s.pattern first_axis s.right _ _ s.vector;
+      vector = renamed_repeats from to list ren s.grid s.pattern One s.right _ _ s.vector;
       right_most = s.right_most;
       up_most = s.up_most;
       right_some = s.right_some;
       up_some = s.up_some;
-      right_runs = renamed_traced from to list ren s.grid s.pattern first_axis rows d s.right s.right_runs;
-      up_runs = renamed_traced from to list ren s.grid s.pattern second_axis columns e s.up s.up_runs;
+      right_runs = renamed_traced from to list ren s.grid s.pattern One rows d s.right s.right_runs;
+      up_runs = renamed_traced from to list ren s.grid s.pattern Two columns e s.up s.up_runs;
     }
 
 module _ (l : RawLink) (ls : List RawLink) (list : List ℕ) (linked : AreLinked (fine_of l) (l ∷ ls)) (ren : IsRenaming (last_set (coarse_of l) ls).tiles (fine_of l).tiles list) where

@@ -1,5 +1,6 @@
 -- Patterns that coarse patterns stand for, and patterns of a given size.
 use Rattle.std.specs.Prelude.{◌≡◌, ℕ, ◌+◌, ◌*◌, ◌≤◌, false, List}
+use Rattle.wt_chain.specs.Growth.{is_along}
 use Rattle.wt_tile.specs.declared.tile.Tile.{Tile}
 use Rattle.wt_pattern.specs.Patterns.{IsPattern}
 use Rattle.wt_grid.specs.Grid.{Grid, along, across, lines}
@@ -8,7 +9,6 @@ use Rattle.wt_step.specs.declared.raw.RawLink.{RawLink}
 use Rattle.wt_step.specs.Links.{fine_of}
 use Rattle.wt_step.specs.Meaning.{pieces_of}
 use Rattle.wt_chain.specs.Turns.{axis_of, image_under}
-use Rattle.wt_scale.specs.Scales.{lies_along}
 
 -- The rectangle that a coarse pattern stands for by a step: it is valid, equally large across the axis of the images, and along it at least as large, at most twice, and equally large where each image is a single tile.
 pub record ValidImage (l : RawLink) (q : Grid) : Type 0 where
@@ -17,7 +17,7 @@ pub record ValidImage (l : RawLink) (q : Grid) : Type 0 where
   pub as_wide : across (axis_of l) (image_under l q) ≡ across (axis_of l) q
   pub longer : along (axis_of l) q ≤ along (axis_of l) (image_under l q)
   pub twice : along (axis_of l) (image_under l q) ≤ along (axis_of l) q + along (axis_of l) q
-  pub single : lies_along (axis_of l) l ≡ false → along (axis_of l) (image_under l q) ≡ along (axis_of l) q
+  pub single : is_along (axis_of l) l ≡ false → along (axis_of l) (image_under l q) ≡ along (axis_of l) q
 
 -- a valid pattern with the sides of another
 pub record SameSized (tiles : List Tile) (g h : Grid) : Type 0 where

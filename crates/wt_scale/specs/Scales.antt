@@ -1,9 +1,11 @@
 -- What a good step of either kind does to sizes, periods and runs of cells.
 use Rattle.std.specs.Prelude.{ℕ, ◌+◌, ◌*◌, ◌≤◌, Bool, true, false, List, ◌∷◌}
-use Rattle.wt_tile.specs.Matching.{grid_axis}
+use Rattle.wt_grid.specs.Axes.{same_axis}
+use Rattle.wt_chain.specs.Growth.{is_along}
+use Rattle.wt_grid.specs.declared.axis.Axis.TheVariants.{One, Two}
+use Rattle.wt_grid.specs.declared.axis.Axis.{Axis}
 use Rattle.wt_pattern.specs.Patterns.{IsPattern}
 use Rattle.wt_grid.specs.Grid.{Grid}
-use Rattle.wt_grid.specs.Grid.{Axis as GridAxis, one as first_axis, two as second_axis}
 use Rattle.wt_grid.specs.Shifts.{HasVector}
 use Rattle.wt_grid.specs.Widths.{Stage}
 use Rattle.wt_grid.specs.Traces.{IsStageOf, IsTraced}
@@ -12,17 +14,6 @@ use Rattle.wt_step.specs.declared.raw.RawLink.TheVariants.{Marker, Restrict}
 use Rattle.wt_step.specs.Links.{coarse_of}
 use Rattle.wt_step.specs.Meaning.{pieces_of}
 use Rattle.wt_step.specs.Coarse.{IsCoarseOf}
-
-abbrev pub same_grid_axis : GridAxis → GridAxis → Bool
-same_grid_axis first_axis first_axis = true
-same_grid_axis first_axis second_axis = false
-same_grid_axis second_axis first_axis = false
-same_grid_axis second_axis second_axis = true
-
--- images of two tiles lie along this axis
-abbrev pub lies_along : GridAxis → RawLink → Bool
-lies_along axis (Marker s) = same_grid_axis axis (grid_axis s.axis)
-lies_along axis (Restrict s) = false
 
 -- the side that a rectangle needs so that its coarse one has this side: margins and cuts are paid
 abbrev pub side_below : RawLink → ℕ → ℕ
@@ -38,10 +29,10 @@ pub record Lowered (l : RawLink) (p : Grid) (side : ℕ) (opposed : Bool) (dx dy
   pub high : side ≤ coarse.height
   pub right : ℕ
   pub up : ℕ
-  pub vector : HasVector first_axis opposed right up coarse
+  pub vector : HasVector One opposed right up coarse
   pub right_shorter : right ≤ dx
   pub up_shorter : up ≤ dy
   pub right_half : dx ≤ right + right
   pub up_half : dy ≤ up + up
-  pub right_runs : (s : Stage) (ss : List Stage) (d : ℕ) → IsStageOf (lies_along first_axis l) (pieces_of l) s → IsTraced first_axis ss d p dx → IsTraced first_axis (s ∷ ss) d coarse right
-  pub up_runs : (s : Stage) (ss : List Stage) (d : ℕ) → IsStageOf (lies_along second_axis l) (pieces_of l) s → IsTraced second_axis ss d p dy → IsTraced second_axis (s ∷ ss) d coarse up
+  pub right_runs : (s : Stage) (ss : List Stage) (d : ℕ) → IsStageOf (is_along One l) (pieces_of l) s → IsTraced One ss d p dx → IsTraced One (s ∷ ss) d coarse right
+  pub up_runs : (s : Stage) (ss : List Stage) (d : ℕ) → IsStageOf (is_along Two l) (pieces_of l) s → IsTraced Two ss d p dy → IsTraced Two (s ∷ ss) d coarse up

@@ -1,7 +1,7 @@
 // What good marker steps do to patterns and their periods.
 ghost use Rattle.std.specs.Prelude.{◌≡◌, ◌⊎◌, ◌+◌, ◌^◌, ◌∷◌, ◌<◌, ◌≤◌, None, Ok, ℕ, ℤ, List, Bool};
-ghost use Rattle.wt_tile.specs.Matching.{grid_axis};
-ghost use Rattle.wt_grid.specs.Grid.{Grid, lines, one};
+ghost use Rattle.wt_grid.specs.declared.axis.Axis.TheVariants.{One};
+ghost use Rattle.wt_grid.specs.Grid.{Grid, lines};
 ghost use Rattle.wt_grid.specs.Lines.{IsImage};
 ghost use Rattle.wt_grid.specs.Images.{image_grid};
 ghost use Rattle.wt_grid.specs.Shifts.{HasVector};
@@ -31,8 +31,8 @@ ghost use Rattle.wt_scale.specs.Pick.{power_for};
 /// line stand for one or two lines, which match as the step's images say.
 pub fn images_are_valid()
     ensures { (s : RawStep) → spec.step_fault s ≡ None → (q : Grid) → IsPattern s.coarse.tiles q
-        → IsPattern s.fine.tiles (image_grid (grid_axis s.axis) (pieces s) q)
-        × IsImage (pieces s) (lines (grid_axis s.axis) q) (lines (grid_axis s.axis) (image_grid (grid_axis s.axis) (pieces s) q)) }
+        → IsPattern s.fine.tiles (image_grid s.axis (pieces s) q)
+        × IsImage (pieces s) (lines s.axis q) (lines s.axis (image_grid s.axis (pieces s) q)) }
 {}
 
 /// A valid pattern with a period has, by a good step of either kind, a valid coarse pattern with a period:
@@ -41,7 +41,7 @@ pub fn images_are_valid()
 /// cells of the period's length stands for a run of cells of the old length, wherever it begins.
 pub fn patterns_are_lowered()
     ensures { (l : RawLink) → link_fault l ≡ None → (p : Grid) (side : ℕ) (opposed : Bool) (dx dy : ℕ) → IsPattern (fine_of l).tiles p
-        → side_below l side ≤ p.width → side_below l side ≤ p.height → dx + 2 ≤ side → dy + 2 ≤ side → HasVector one opposed dx dy p
+        → side_below l side ≤ p.width → side_below l side ≤ p.height → dx + 2 ≤ side → dy + 2 ≤ side → HasVector One opposed dx dy p
         → Lowered l p side opposed dx dy }
 {}
 

@@ -1,29 +1,31 @@
 -- How many blocks begin in the lines that the first coarse lines stand for.
 use Rattle.std.proofs.Common.{arith, ◌≡◌, ◌≤◌, ◌+◌, ◌++◌, ℕ, zero, suc, List, [], ◌∷◌, length, take, Bool, true, false, refl, sym, ◌∙◌, ap}
+use Rattle.wt_grid.specs.declared.image.Image.TheVariants.{One as Single, Two as Double}
+use Rattle.wt_grid.specs.declared.image.Image.{Image}
 use Rattle.std.proofs.lemmas.List.{length-take-le}
 use Rattle.std.proofs.lemmas.Option.{get_or_from_slice_get}
-use Rattle.wt_grid.specs.Lines.{Piece, one, two, Singles, Pairs}
+use Rattle.wt_grid.specs.Lines.{Singles, Pairs}
 use Rattle.wt_grid.specs.Images.{is_pair, is_double, line_image, image_lines}
 use Rattle.wt_grid.proofs.ImageGrids.{image_count}
 use Rattle.wt_step.specs.Blocks.{blocks_in}
 use Rattle.wt_step.proofs.Readings.{Reads}
 
-single_size : (im : List Piece) (q : List ℕ) (a : ℕ) (u : List ℕ) → Singles im q (a ∷ u) → is_double im q ≡ false
+single_size : (im : List Image) (q : List ℕ) (a : ℕ) (u : List ℕ) → Singles im q (a ∷ u) → is_double im q ≡ false
 single_size im [] a u h = absurd h
-single_size im (k ∷ ks) a u h = ap is_pair (get_or_from_slice_get im k (one a) (one 0) h.0)
+single_size im (k ∷ ks) a u h = ap is_pair (get_or_from_slice_get im k (Single a) (Single 0) h.0)
 
-pair_size : (im : List Piece) (q : List ℕ) (a : ℕ) (u v : List ℕ) → Pairs im q (a ∷ u) v → is_double im q ≡ true
+pair_size : (im : List Image) (q : List ℕ) (a : ℕ) (u v : List ℕ) → Pairs im q (a ∷ u) v → is_double im q ≡ true
 pair_size im [] a u v h = absurd h
 pair_size im (k ∷ ks) a u [] h = absurd h
-pair_size im (k ∷ ks) a u (b ∷ v) h = ap is_pair (get_or_from_slice_get im k (two a b) (one 0) h.0)
+pair_size im (k ∷ ks) a u (b ∷ v) h = ap is_pair (get_or_from_slice_get im k (Double a b) (Single 0) h.0)
 
-one_more : (im : List Piece) (q : List ℕ) (ys : List (List ℕ)) → is_double im q ≡ false → length (line_image im q ++ ys) ≡ suc (length ys)
+one_more : (im : List Image) (q : List ℕ) (ys : List (List ℕ)) → is_double im q ≡ false → length (line_image im q ++ ys) ≡ suc (length ys)
 one_more im q ys e = rw e refl
 
-two_more : (im : List Piece) (q : List ℕ) (ys : List (List ℕ)) → is_double im q ≡ true → length (line_image im q ++ ys) ≡ suc (suc (length ys))
+two_more : (im : List Image) (q : List ℕ) (ys : List (List ℕ)) → is_double im q ≡ true → length (line_image im q ++ ys) ≡ suc (suc (length ys))
 two_more im q ys e = rw e refl
 
-module _ (im : List Piece) (c : ℕ → ℕ) (rest : ℕ → List ℕ) (pairs : ℕ → Bool) where
+module _ (im : List Image) (c : ℕ → ℕ) (rest : ℕ → List ℕ) (pairs : ℕ → Bool) where
   -- the lines that the first n coarse lines stand for
   abbrev Lines : ℕ → List (List ℕ) → List (List ℕ)
   Lines n qs = image_lines im (take n qs)

@@ -1,11 +1,10 @@
 -- What the number of blocks makes of a period.
 use Rattle.std.proofs.Common.{arith, ◌≡◌, ◌≤◌, ◌+◌, ◌-◌, ℕ, zero, suc, ℤ, pos, negsuc, ◌↔◌, None, true, ◌&&◌, not, nat_le, refl, sym, ◌∙◌, ap, subst}
+use Rattle.wt_grid.specs.declared.axis.Axis.TheVariants.{One, Two}
+use Rattle.wt_grid.specs.declared.axis.Axis.{Axis}
 use Rattle.std.proofs.lemmas.Int.{ints}
 use Rattle.std.proofs.lemmas.Bool.Decides.{nat_tests}
 use Rattle.wt_grid.proofs.Order.{both}
-use Rattle.wt_tile.specs.declared.tile.Axis.{Axis}
-use Rattle.wt_tile.specs.declared.tile.Axis.TheVariants.{One, Two}
-use Rattle.wt_tile.specs.Matching.{grid_axis}
 use Rattle.wt_pattern.specs.Patterns.{IsPattern}
 use Rattle.wt_pattern.specs.Periods.{IsPeriod, IsPeriodAlong}
 use Rattle.wt_pattern.proofs.PeriodLaws.{turned_period, turned_back}
@@ -33,24 +32,24 @@ use Rattle.wt_step.proofs.Restricted.{good_restrict}
 use Rattle.wt_step.proofs.Desubstitution.{some_coarse}
 use Rattle.wt_step.proofs.KeptPeriods.{kept_period}
 
-module _ (s : RawStep) (g : GoodStep s) (p : Grid) (v : IsPattern s.fine.tiles p) (la : 3 ≤ along (grid_axis s.axis) (core s.radius p)) (lc : 1 ≤ across (grid_axis s.axis) (core s.radius p)) where
+module _ (s : RawStep) (g : GoodStep s) (p : Grid) (v : IsPattern s.fine.tiles p) (la : 3 ≤ along s.axis (core s.radius p)) (lc : 1 ≤ across s.axis (core s.radius p)) where
   -- the blocks that begin in the lines below the first m coarse lines are m
-  count_below : (q : Grid) → IsCoarse s p q → (m : ℕ) → m ≤ along (grid_axis s.axis) q → blocks_begun s p (lines_below s q m) ≡ m
+  count_below : (q : Grid) → IsCoarse s p q → (m : ℕ) → m ≤ along s.axis q → blocks_begun s p (lines_below s q m) ≡ m
   count_below q i m le =
-      let wide : ℕ = across (grid_axis s.axis) (core s.radius p) - 1 in
-      let n = length_lines (grid_axis s.axis) q in
+      let wide : ℕ = across s.axis (core s.radius p) - 1 in
+      let n = length_lines s.axis q in
       begun (pieces s) (λ i. core_at s p i 0) (λ i. listed wide (λ j. core_at s p i (suc j))) (pairs_at s p)
-      (along (grid_axis s.axis) (core s.radius p) - (one_if (ends_at s p 0) + one_if (not (ends_at s p (along (grid_axis s.axis) (core s.radius p) - 1))))) (one_if (ends_at s p 0)) (lines (grid_axis s.axis) q)
-      (the_reads s g p v la wide (omega arith) (lines (grid_axis s.axis) q) i) m (omega arith)
+      (along s.axis (core s.radius p) - (one_if (ends_at s p 0) + one_if (not (ends_at s p (along s.axis (core s.radius p) - 1))))) (one_if (ends_at s p 0)) (lines s.axis q)
+      (the_reads s g p v la wide (omega arith) (lines s.axis q) i) m (omega arith)
 
-  only_count : (q : Grid) → IsCoarse s p q → (m d : ℕ) → m ≤ along (grid_axis s.axis) q → lines_below s q m ≡ d → m ≡ blocks_begun s p d
+  only_count : (q : Grid) → IsCoarse s p q → (m d : ℕ) → m ≤ along s.axis q → lines_below s q m ≡ d → m ≡ blocks_begun s p d
   only_count q i m d le e = sym (count_below q i m le) ∙ ap (blocks_begun s p) e
 
 module _ (s : RawStep) (g : GoodStep s) (p : Grid) (v : IsPattern s.fine.tiles p) (x y : ℤ)
-    (la : magnitude x + 3 ≤ along (grid_axis s.axis) (core s.radius p)) (lc : magnitude y + 1 ≤ across (grid_axis s.axis) (core s.radius p)) (h : IsPeriodAlong (grid_axis s.axis) p x y) where
+    (la : magnitude x + 3 ≤ along s.axis (core s.radius p)) (lc : magnitude y + 1 ≤ across s.axis (core s.radius p)) (h : IsPeriodAlong s.axis p x y) where
   pub count_carried : (q : Grid) → IsGrid q → IsCoarse s p q → IsCarried s (are_opposed x y) (magnitude x) (magnitude y) (blocks_begun s p (magnitude x)) q
   count_carried q iq i =
-      let k = carried s g p q v iq i (are_opposed x y) (magnitude x) (magnitude y) la (omega arith) (to_vector (grid_axis s.axis) p x y h) in
+      let k = carried s g p q v iq i (are_opposed x y) (magnitude x) (magnitude y) la (omega arith) (to_vector s.axis p x y h) in
       let few = k.1.few in
       let e : k.0 ≡ blocks_begun s p (magnitude x) = only_count s g p v (omega arith) (omega arith) q i k.0 (magnitude x) few (k.1.filled 0 (omega arith)) in
       subst (λ (n : ℕ). IsCarried s (are_opposed x y) (magnitude x) (magnitude y) n q) e k.1
@@ -65,8 +64,8 @@ module _ (s : RawStep) (g : GoodStep s) (p : Grid) (v : IsPattern s.fine.tiles p
         only = λ m le e. only_count s g p v (omega arith) (omega arith) q i m (magnitude x) le e;
       }
 
-  pub carried_period : (q : Grid) → IsGrid q → IsCoarse s p q → IsPeriodAlong (grid_axis s.axis) q (with_sign x (blocks_begun s p (magnitude x))) y
-  carried_period q iq i = from_vector (grid_axis s.axis) q x y (blocks_begun s p (magnitude x)) (count_carried q iq i).vector
+  pub carried_period : (q : Grid) → IsGrid q → IsCoarse s p q → IsPeriodAlong s.axis q (with_sign x (blocks_begun s p (magnitude x))) y
+  carried_period q iq i = from_vector s.axis q x y (blocks_begun s p (magnitude x)) (count_carried q iq i).vector
 
 -- ---- vectors of rectangles, read along an axis
 
@@ -82,11 +81,11 @@ rest Two dx dy = dx
 fits : (a b n m : ℕ) → (nat_le a n && nat_le b m) ≡ true → (a ≤ n) × (b ≤ m)
 fits a b n m h = let t = both (nat_le a n) (nat_le b m) h in (grind (arith, nat_tests, t.0), grind (arith, nat_tests, t.1))
 
-pub room_along : (axis : Axis) (c : Grid) (dx dy : ℤ) → has_room_along axis c dx dy ≡ true → (magnitude (part axis dx dy) + 3 ≤ along (grid_axis axis) c) × (magnitude (rest axis dx dy) + 1 ≤ across (grid_axis axis) c)
+pub room_along : (axis : Axis) (c : Grid) (dx dy : ℤ) → has_room_along axis c dx dy ≡ true → (magnitude (part axis dx dy) + 3 ≤ along axis c) × (magnitude (rest axis dx dy) + 1 ≤ across axis c)
 room_along One c dx dy h = fits (magnitude dx + 3) (magnitude dy + 1) c.width c.height h
 room_along Two c dx dy h = let t = fits (magnitude dx + 1) (magnitude dy + 3) c.width c.height h in (t.1, t.0)
 
-period_along : (axis : Axis) (p : Grid) (dx dy : ℤ) → IsPeriod p dx dy → IsPeriodAlong (grid_axis axis) p (part axis dx dy) (rest axis dx dy)
+period_along : (axis : Axis) (p : Grid) (dx dy : ℤ) → IsPeriod p dx dy → IsPeriodAlong axis p (part axis dx dy) (rest axis dx dy)
 period_along One p dx dy h = h
 period_along Two p dx dy h = turned_period p dx dy h
 
@@ -114,7 +113,7 @@ module _ (s : RawStep) (p q : Grid) where
   value_along One dx dy h = (counted dx h, refl)
   value_along Two dx dy h = (refl, counted dy h)
 
-  same_period : (axis : Axis) (dx dy : ℤ) → IsPeriodAlong (grid_axis axis) q (in_blocks s p (part axis dx dy)) (rest axis dx dy)
+  same_period : (axis : Axis) (dx dy : ℤ) → IsPeriodAlong axis q (in_blocks s p (part axis dx dy)) (rest axis dx dy)
       → IsPeriod q (vector_along axis s p dx dy).0 (vector_along axis s p dx dy).1
   same_period One dx dy h = h
   same_period Two dx dy h = turned_back q dx (in_blocks s p dy) h

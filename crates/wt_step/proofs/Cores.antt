@@ -1,8 +1,9 @@
 -- In the core of a valid rectangle each pair of neighbours is allowed.
 use Rattle.std.proofs.Common.{arith, ◌≡◌, ◌≤◌, ◌<◌, ◌+◌, ℕ, zero, suc, List, [], ◌∷◌, length, slice_get, Option, None, Some, Bool, true, false, ◌&&◌, ◌||◌, not, nat_eq, nat_le, nat_lt, refl, sym, ◌∙◌, ap, subst, inl, inr}
+use Rattle.wt_grid.specs.Axes.{axis_number}
+use Rattle.wt_grid.specs.declared.axis.Axis.TheVariants.{One, Two}
+use Rattle.wt_grid.specs.declared.axis.Axis.{Axis}
 use Rattle.std.proofs.lemmas.Bool.Decides.{nat_tests}
-use Rattle.wt_tile.specs.declared.tile.Axis.{Axis}
-use Rattle.wt_tile.specs.declared.tile.Axis.TheVariants.{One, Two}
 use Rattle.wt_tile.specs.Matching.{matches}
 use Rattle.wt_refute.specs.declared.tree.Refuted.{Refuted}
 use Rattle.wt_refute.specs.Refutes.{tree_fault}
@@ -10,19 +11,17 @@ use Rattle.wt_grid.specs.Order.{find, leads, in_order, AllAbove, IsSplit}
 use Rattle.wt_grid.proofs.First.{none_from, count_none, count_some}
 use Rattle.wt_grid.proofs.Order.{both}
 use Rattle.wt_grid.specs.Grid.{Grid, at}
-use Rattle.wt_grid.specs.Grid.{Axis as GridAxis, one as first_axis, two as second_axis}
 use Rattle.wt_grid.specs.Parts.{core, AllBelow, IsValid, IsWindow}
 use Rattle.wt_grid.proofs.Parts.{core_window, core_valid, core_below}
 use Rattle.wt_step.specs.declared.raw.RawStep.{RawStep}
 use Rattle.wt_step.specs.declared.raw.StepFault.TheVariants.{Node}
 use Rattle.wt_step.specs.Words.{allows, is_barred, entry_at, times, entry_fits}
-use Rattle.wt_refute.specs.Entries.{is_entry, entry_before, entries_follow, axis_number}
+use Rattle.wt_refute.specs.Entries.{is_entry, entry_before, entries_follow}
 use Rattle.wt_grid.specs.Pairs.{is_pair}
 use Rattle.wt_step.specs.Faults.{tree_fault_at, tree_answer}
 use Rattle.wt_step.specs.Good.{GoodStep}
 use Rattle.wt_step.specs.Meaning.{allowing}
 use Rattle.wt_refute.proofs.Faults.{all_empty}
-use Rattle.wt_tile.specs.Matching.{grid_axis, tile_axis, matching}
 use Rattle.wt_pattern.specs.Windows.{IsEmptyWindow}
 use Rattle.wt_refute.proofs.Entries.{entries_split}
 use Rattle.wt_step.proofs.Shaped.{refuted_ascend}
@@ -76,9 +75,9 @@ axis_same One Two e = absurd (cc e)
 axis_same Two One e = absurd (cc e)
 axis_same Two Two e = refl
 
-grid_tile : (axis : GridAxis) → grid_axis (tile_axis axis) ≡ axis
-grid_tile first_axis = refl
-grid_tile second_axis = refl
+grid_tile : (axis : Axis) → axis ≡ axis
+grid_tile One = refl
+grid_tile Two = refl
 
 module _ (s : RawStep) (g : GoodStep s) where
   pub known_entry : (i : ℕ) (k : Refuted) → slice_get s.refuted i ≡ Some k → entry_at s k.axis k.a k.b k.radius ≡ Some k
@@ -138,16 +137,16 @@ module _ (s : RawStep) (g : GoodStep s) where
       )
 
   -- each pair of neighbours in a core is allowed
-  pub core_allowed : (c : Grid) → AllBelow (length s.fine.tiles) c → IsValid (matching s.fine.tiles) c → IsValid (allowing s) (core s.radius c)
-  core_allowed c b v axis i j li lj = go (allows s (tile_axis axis) (at axis (core s.radius c) i j) (at axis (core s.radius c) (suc i) j)) refl
+  pub core_allowed : (c : Grid) → AllBelow (length s.fine.tiles) c → IsValid (matches s.fine.tiles) c → IsValid (allowing s) (core s.radius c)
+  core_allowed c b v axis i j li lj = go (allows s axis (at axis (core s.radius c) i j) (at axis (core s.radius c) (suc i) j)) refl
     where
-      go : (t : Bool) → allows s (tile_axis axis) (at axis (core s.radius c) i j) (at axis (core s.radius c) (suc i) j) ≡ t
-          → allows s (tile_axis axis) (at axis (core s.radius c) i j) (at axis (core s.radius c) (suc i) j) ≡ true
+      go : (t : Bool) → allows s axis (at axis (core s.radius c) i j) (at axis (core s.radius c) (suc i) j) ≡ t
+          → allows s axis (at axis (core s.radius c) i j) (at axis (core s.radius c) (suc i) j) ≡ true
       go true t = t
       go false t =
-          let m = core_valid (matching s.fine.tiles) s.radius c v axis i j li lj in
-          let h : is_barred s (tile_axis axis) (at axis (core s.radius c) i j) (at axis (core s.radius c) (suc i) j) ≡ true = rw (m, t) refl in
-          let e = barred_empty (tile_axis axis) (at axis (core s.radius c) i j) (at axis (core s.radius c) (suc i) j)
+          let m = core_valid (matches s.fine.tiles) s.radius c v axis i j li lj in
+          let h : is_barred s axis (at axis (core s.radius c) i j) (at axis (core s.radius c) (suc i) j) ≡ true = rw (m, t) refl in
+          let e = barred_empty axis (at axis (core s.radius c) i j) (at axis (core s.radius c) (suc i) j)
           (core_below axis (length s.fine.tiles) s.radius c b i j (omega arith) lj) (core_below axis (length s.fine.tiles) s.radius c b (suc i) j li lj) h in
-          let w = core_window (length s.fine.tiles) (matching s.fine.tiles) axis c i j s.radius e.0 b v e.1 li lj in
-          absurd (e.2 w.0 (subst (λ (x : GridAxis). IsWindow (length s.fine.tiles) (matching s.fine.tiles) x (at axis (core s.radius c) i j) (at axis (core s.radius c) (suc i) j) e.0 w.0) (sym (grid_tile axis)) w.1))
+          let w = core_window (length s.fine.tiles) (matches s.fine.tiles) axis c i j s.radius e.0 b v e.1 li lj in
+          absurd (e.2 w.0 (subst (λ (x : Axis). IsWindow (length s.fine.tiles) (matches s.fine.tiles) x (at axis (core s.radius c) i j) (at axis (core s.radius c) (suc i) j) e.0 w.0) (sym (grid_tile axis)) w.1))

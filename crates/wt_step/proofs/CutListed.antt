@@ -1,13 +1,12 @@
 -- The cut lines of a rectangle, by the first and the last line.
 use Rattle.std.proofs.Common.{arith, ◌≡◌, ◌+◌, ◌-◌, ℕ, suc, List, [], ◌∷◌, ◌++◌, Bool, true, false, not, if◌then◌else◌, refl, sym, ◌∙◌, ap}
-use Rattle.wt_tile.specs.declared.tile.Side.{Side}
-use Rattle.wt_tile.specs.declared.tile.Side.TheVariants.{After, Before}
+use Rattle.wt_grid.specs.declared.axis.Side.TheVariants.{After, Before}
+use Rattle.wt_grid.specs.declared.axis.Side.{Side}
 use Rattle.wt_grid.specs.Grid.{listed}
 use Rattle.wt_grid.specs.Lines.{is_marker_line, cut_end}
 use Rattle.wt_grid.specs.Cuts.{backwards, cut_front, cut_lines, cut}
 use Rattle.wt_grid.proofs.Backwards.{backwards_append, backwards_twice}
 use Rattle.wt_step.specs.Blocks.{one_if}
-use Rattle.wt_step.specs.Meaning.{line_side}
 use Rattle.wt_step.proofs.Listed.{listed_last}
 use Rattle.wt_step.specs.Words.{ends_block}
 
@@ -86,7 +85,7 @@ module _ (marker : ℕ → Bool) where
 
   -- what is cut of n + 2 lines
   pub cut_listed : (side : Side) (n : ℕ) (f : ℕ → List ℕ)
-      → cut (line_side side) marker (listed (suc (suc n)) f)
+      → cut side marker (listed (suc (suc n)) f)
       ≡ listed (suc (suc n) - (one_if (ends_block side (is_marker_line marker (f 0))) + one_if (not (ends_block side (is_marker_line marker (f (suc n))))))) (behind (ends_block side (is_marker_line marker (f 0))) f)
   cut_listed After n f = after_cut n f (is_marker_line marker (f 0)) (is_marker_line marker (f (suc n))) refl refl
   cut_listed Before n f = go (is_marker_line marker (f (suc n))) refl

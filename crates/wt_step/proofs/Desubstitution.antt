@@ -1,40 +1,40 @@
 -- The law of desubstitution of a good step.
 use Rattle.std.proofs.Common.{arith, ◌≡◌, ◌≤◌, ◌++◌, ℕ, List, length, slice_get, Option, None, Some, option_map, true, nat_eq, refl, sym, ◌∙◌, ap, subst}
+use Rattle.wt_grid.specs.Axes.{other}
+use Rattle.wt_grid.specs.Images.{first_tile, last_tile}
+use Rattle.wt_grid.specs.declared.image.Image.TheVariants.{One as Single, Two as Double}
+use Rattle.wt_grid.specs.declared.image.Image.{Image}
+use Rattle.wt_grid.specs.declared.axis.Axis.TheVariants.{One, Two}
+use Rattle.wt_grid.specs.declared.axis.Axis.{Axis}
 use Rattle.std.proofs.lemmas.Bool.Decides.{nat_tests}
 use Rattle.std.proofs.lemmas.Option.{slice_get-map}
 use Rattle.std.proofs.lemmas.List.{length-map}
-use Rattle.wt_tile.specs.declared.tile.Axis.{Axis}
-use Rattle.wt_tile.specs.declared.tile.Axis.TheVariants.{One, Two}
-use Rattle.wt_tile.specs.Matching.{matches, other}
+use Rattle.wt_tile.specs.Matching.{matches}
 use Rattle.wt_grid.specs.Order.{all_of}
 use Rattle.wt_grid.proofs.Order.{both}
-use Rattle.wt_grid.specs.Lines.{Piece, IsGood, IsImage}
+use Rattle.wt_grid.specs.Lines.{IsGood, IsImage}
 use Rattle.wt_grid.proofs.Coarse.{first, last, MatchAcross}
 use Rattle.wt_grid.specs.Grid.{Grid, IsGrid, along, across, lines}
 use Rattle.wt_grid.specs.Cuts.{table, closed, Fills}
 use Rattle.wt_grid.specs.Parts.{core, AllBelow}
-use Rattle.wt_grid.specs.Parts.{other as other_grid}
 use Rattle.wt_grid.proofs.Parts.{core_valid}
 use Rattle.wt_grid.proofs.Rectangles.{some_grid, one_grid, wide_along}
 use Rattle.wt_grid.proofs.Grids.{length_lines, long_lines, filled_long}
 use Rattle.wt_grid.proofs.Runs.{same_blocks_of}
 use Rattle.wt_step.specs.declared.raw.RawStep.{RawStep}
-use Rattle.wt_morphism.specs.declared.image.Image.{Image}
-use Rattle.wt_morphism.specs.declared.image.Image.TheVariants.{One as Single, Two as Double}
-use Rattle.wt_step.specs.Words.{allows, is_marker, image_at, image_fits, images_match, first_tile, last_tile, pieces_match}
+use Rattle.wt_step.specs.Words.{allows, is_marker, image_at, image_fits, images_match, pieces_match}
 use Rattle.wt_step.specs.Good.{GoodStep}
 use Rattle.wt_morphism.specs.Images.{piece}
-use Rattle.wt_step.specs.Meaning.{line_side, allowing, pieces, IsCoarse}
-use Rattle.wt_tile.specs.Matching.{grid_axis, tile_axis, matching}
+use Rattle.wt_step.specs.Meaning.{allowing, pieces, IsCoarse}
 use Rattle.wt_pattern.specs.Patterns.{IsPattern}
 use Rattle.wt_step.proofs.Tables.{good_table, some_of, same_itself, not_other}
 use Rattle.wt_step.proofs.Cores.{core_allowed}
 
-pub tile_grid : (axis : Axis) → tile_axis (grid_axis axis) ≡ axis
+pub tile_grid : (axis : Axis) → axis ≡ axis
 tile_grid One = refl
 tile_grid Two = refl
 
-pub tile_other : (axis : Axis) → tile_axis (other_grid (grid_axis axis)) ≡ other axis
+pub tile_other : (axis : Axis) → (other axis) ≡ other axis
 tile_other One = refl
 tile_other Two = refl
 
@@ -47,7 +47,7 @@ last_piece (Single a) = refl
 last_piece (Double a b) = refl
 
 -- the image that a piece comes from
-of_piece : (o : Option Image) (p : Piece) → option_map piece o ≡ Some p → (x : Image) × (o ≡ Some x) × (piece x ≡ p)
+of_piece : (o : Option Image) (p : Image) → option_map piece o ≡ Some p → (x : Image) × (o ≡ Some x) × (piece x ≡ p)
 of_piece None p e = absurd cc
 of_piece (Some x) p e = let f : Some (piece x) ≡ Some p = e in (x, refl, cc)
 
@@ -70,7 +70,7 @@ module _ (s : RawStep) (g : GoodStep s) where
       g.joins axis i j (omega arith) (omega arith)
       ∙ (subst (λ (u : Image). images_match s axis u (image_at s j) ≡ true) (sym a.1) (subst (λ (v : Image). images_match s axis x v ≡ true) (sym b.1) m))
 
-  joins : (i j : ℕ) (p r : Piece) → slice_get (pieces s) i ≡ Some p → slice_get (pieces s) j ≡ Some r → matches s.fine.tiles s.axis (last p) (first r) ≡ true → matches s.coarse.tiles s.axis i j ≡ true
+  joins : (i j : ℕ) (p r : Image) → slice_get (pieces s) i ≡ Some p → slice_get (pieces s) j ≡ Some r → matches s.fine.tiles s.axis (last p) (first r) ≡ true → matches s.coarse.tiles s.axis i j ≡ true
   joins i j p r e f m =
       let x = of_piece (slice_get s.images i) p (sym (slice_get-map piece s.images i) ∙ e) in
       let y = of_piece (slice_get s.images j) r (sym (slice_get-map piece s.images j) ∙ f) in
@@ -79,50 +79,50 @@ module _ (s : RawStep) (g : GoodStep s) where
       let m' : matches s.fine.tiles s.axis (last_tile x.0) (first_tile y.0) ≡ true = subst (λ (v : ℕ). matches s.fine.tiles s.axis (last_tile x.0) v ≡ true) k (subst (λ (u : ℕ). matches s.fine.tiles s.axis u (first r) ≡ true) l m) in
       joined_images s.axis i j x.0 y.0 x.1 y.1 (rw (same_itself s.axis) m')
 
-  stacks : (i j : ℕ) (p r : Piece) → slice_get (pieces s) i ≡ Some p → slice_get (pieces s) j ≡ Some r → MatchAcross (matches s.fine.tiles (other s.axis)) p r → matches s.coarse.tiles (other s.axis) i j ≡ true
+  stacks : (i j : ℕ) (p r : Image) → slice_get (pieces s) i ≡ Some p → slice_get (pieces s) j ≡ Some r → MatchAcross (matches s.fine.tiles (other s.axis)) p r → matches s.coarse.tiles (other s.axis) i j ≡ true
   stacks i j p r e f m =
       let x = of_piece (slice_get s.images i) p (sym (slice_get-map piece s.images i) ∙ e) in
       let y = of_piece (slice_get s.images j) r (sym (slice_get-map piece s.images j) ∙ f) in
-      let m' : MatchAcross (matches s.fine.tiles (other s.axis)) (piece x.0) (piece y.0) = subst (λ (v : Piece). MatchAcross (matches s.fine.tiles (other s.axis)) (piece x.0) v) (sym y.2) (subst (λ (u : Piece). MatchAcross (matches s.fine.tiles (other s.axis)) u r) (sym x.2) m) in
+      let m' : MatchAcross (matches s.fine.tiles (other s.axis)) (piece x.0) (piece y.0) = subst (λ (v : Image). MatchAcross (matches s.fine.tiles (other s.axis)) (piece x.0) v) (sym y.2) (subst (λ (u : Image). MatchAcross (matches s.fine.tiles (other s.axis)) u r) (sym x.2) m) in
       joined_images (other s.axis) i j x.0 y.0 x.1 y.1 (rw (not_other s.axis) (matched_pieces s.fine.tiles (other s.axis) x.0 y.0 m'))
 
   -- the same, said with the axes of rectangles
-  the_table : IsGood (table (line_side s.side) (allowing s (grid_axis s.axis)) (allowing s (other_grid (grid_axis s.axis))) (is_marker s) (pieces s))
+  the_table : IsGood (table s.side (allowing s s.axis) (allowing s (other s.axis)) (is_marker s) (pieces s))
   the_table =
-      subst (λ (u : Axis). IsGood (table (line_side s.side) (allows s u) (allows s (tile_axis (other_grid (grid_axis s.axis)))) (is_marker s) (pieces s))) (sym (tile_grid s.axis))
-      (subst (λ (v : Axis). IsGood (table (line_side s.side) (allows s s.axis) (allows s v) (is_marker s) (pieces s))) (sym (tile_other s.axis)) (good_table s g))
+      subst (λ (u : Axis). IsGood (table s.side (allows s u) (allows s ((other s.axis))) (is_marker s) (pieces s))) (sym (tile_grid s.axis))
+      (subst (λ (v : Axis). IsGood (table s.side (allows s s.axis) (allows s v) (is_marker s) (pieces s))) (sym (tile_other s.axis)) (good_table s g))
 
-  the_joins : (i j : ℕ) (p r : Piece) → slice_get (pieces s) i ≡ Some p → slice_get (pieces s) j ≡ Some r → matching s.fine.tiles (grid_axis s.axis) (last p) (first r) ≡ true → matching s.coarse.tiles (grid_axis s.axis) i j ≡ true
+  the_joins : (i j : ℕ) (p r : Image) → slice_get (pieces s) i ≡ Some p → slice_get (pieces s) j ≡ Some r → matches s.fine.tiles s.axis (last p) (first r) ≡ true → matches s.coarse.tiles s.axis i j ≡ true
   the_joins i j p r e f m =
       subst (λ (u : Axis). matches s.coarse.tiles u i j ≡ true) (sym (tile_grid s.axis))
       (joins i j p r e f (subst (λ (u : Axis). matches s.fine.tiles u (last p) (first r) ≡ true) (tile_grid s.axis) m))
 
-  the_stacks : (i j : ℕ) (p r : Piece) → slice_get (pieces s) i ≡ Some p → slice_get (pieces s) j ≡ Some r → MatchAcross (matching s.fine.tiles (other_grid (grid_axis s.axis))) p r → matching s.coarse.tiles (other_grid (grid_axis s.axis)) i j ≡ true
+  the_stacks : (i j : ℕ) (p r : Image) → slice_get (pieces s) i ≡ Some p → slice_get (pieces s) j ≡ Some r → MatchAcross (matches s.fine.tiles (other s.axis)) p r → matches s.coarse.tiles (other s.axis) i j ≡ true
   the_stacks i j p r e f m =
       subst (λ (u : Axis). matches s.coarse.tiles u i j ≡ true) (sym (tile_other s.axis))
       (stacks i j p r e f (subst (λ (u : Axis). MatchAcross (matches s.fine.tiles u) p r) (tile_other s.axis) m))
 
   -- Each valid rectangle has a coarse one inside its core, and that is valid.
-  pub some_coarse : (c : Grid) → IsPattern s.fine.tiles c → 3 ≤ along (grid_axis s.axis) (core s.radius c) → 1 ≤ across (grid_axis s.axis) (core s.radius c)
+  pub some_coarse : (c : Grid) → IsPattern s.fine.tiles c → 3 ≤ along s.axis (core s.radius c) → 1 ≤ across s.axis (core s.radius c)
       → (q : Grid) × IsCoarse s c q × IsPattern s.coarse.tiles q
   some_coarse c p la lc =
-      let r = some_grid (grid_axis s.axis) (line_side s.side) (allowing s) (matching s.fine.tiles) (matching s.coarse.tiles) (is_marker s) (pieces s) the_table the_joins the_stacks
-      (core s.radius c) (core_allowed s g c p.1 p.2) (core_valid (matching s.fine.tiles) s.radius c p.2) la lc in
+      let r = some_grid s.axis s.side (allowing s) (matches s.fine.tiles) (matches s.coarse.tiles) (is_marker s) (pieces s) the_table the_joins the_stacks
+      (core s.radius c) (core_allowed s g c p.1 p.2) (core_valid (matches s.fine.tiles) s.radius c p.2) la lc in
       let n : length (pieces s) ≡ length s.coarse.tiles = length-map s.images piece ∙ count_images in
       (r.0, r.3, (r.1, subst (λ (n : ℕ). AllBelow n r.0) n r.2, r.4))
 
   -- And no other.
-  pub one_coarse : (c q r : Grid) → 1 ≤ across (grid_axis s.axis) (core s.radius c) → IsGrid q → IsGrid r → IsCoarse s c q → IsCoarse s c r → q ≡ r
+  pub one_coarse : (c q r : Grid) → 1 ≤ across s.axis (core s.radius c) → IsGrid q → IsGrid r → IsCoarse s c q → IsCoarse s c r → q ≡ r
   one_coarse c q r lc iq ir i j =
-      one_grid (grid_axis s.axis) (line_side s.side) (allowing s) (matching s.fine.tiles) (matching s.coarse.tiles) (is_marker s) (pieces s) the_table the_joins the_stacks (core s.radius c) q r lc iq ir i j
+      one_grid s.axis s.side (allowing s) (matches s.fine.tiles) (matches s.coarse.tiles) (is_marker s) (pieces s) the_table the_joins the_stacks (core s.radius c) q r lc iq ir i j
 
   -- Of any other coarse rectangle whose image is a run of lines of the core, each block but the one at the open end is a block of that one, at the same lines.
-  pub same_blocks : (c q r : Grid) → 1 ≤ across (grid_axis s.axis) (core s.radius c) → IsGrid r → IsCoarse s c q
-      → (front run back : List (List ℕ)) → lines (grid_axis s.axis) (core s.radius c) ≡ front ++ (run ++ back) → IsImage (pieces s) (lines (grid_axis s.axis) r) run
-      → (qa : List (List ℕ)) × (qb : List (List ℕ)) × (lines (grid_axis s.axis) q ≡ qa ++ (closed (line_side s.side) (lines (grid_axis s.axis) r) ++ qb))
-      × Fills (line_side s.side) (is_marker s) (pieces s) qa qb front back
+  pub same_blocks : (c q r : Grid) → 1 ≤ across s.axis (core s.radius c) → IsGrid r → IsCoarse s c q
+      → (front run back : List (List ℕ)) → lines s.axis (core s.radius c) ≡ front ++ (run ++ back) → IsImage (pieces s) (lines s.axis r) run
+      → (qa : List (List ℕ)) × (qb : List (List ℕ)) × (lines s.axis q ≡ qa ++ (closed s.side (lines s.axis r) ++ qb))
+      × Fills s.side (is_marker s) (pieces s) qa qb front back
   same_blocks c q r lc ir i front run back e j =
-      let some : 1 ≤ length (lines (grid_axis s.axis) r) = (let n = length_lines (grid_axis s.axis) r in let w = wide_along (grid_axis s.axis) r ir in omega arith) in
-      same_blocks_of (line_side s.side) (allowing s (grid_axis s.axis)) (allowing s (other_grid (grid_axis s.axis))) (is_marker s) (pieces s) the_table
-      (lines (grid_axis s.axis) (core s.radius c)) front run back (lines (grid_axis s.axis) q) (lines (grid_axis s.axis) r)
-      (filled_long (across (grid_axis s.axis) (core s.radius c)) (lines (grid_axis s.axis) (core s.radius c)) lc (long_lines (grid_axis s.axis) (core s.radius c))) e some j i
+      let some : 1 ≤ length (lines s.axis r) = (let n = length_lines s.axis r in let w = wide_along s.axis r ir in omega arith) in
+      same_blocks_of s.side (allowing s s.axis) (allowing s (other s.axis)) (is_marker s) (pieces s) the_table
+      (lines s.axis (core s.radius c)) front run back (lines s.axis q) (lines s.axis r)
+      (filled_long (across s.axis (core s.radius c)) (lines s.axis (core s.radius c)) lc (long_lines s.axis (core s.radius c))) e some j i

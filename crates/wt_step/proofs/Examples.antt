@@ -1,14 +1,14 @@
 -- The step of a small certificate, and its first fault where an image is missing.
 use Rattle.std.proofs.Common.{◌≡◌, [], ◌∷◌, refl}
+use Rattle.wt_grid.specs.declared.image.Image.TheVariants.{One as Single, Two as Double}
+use Rattle.wt_grid.specs.declared.image.Image.{Image}
+use Rattle.wt_grid.specs.declared.axis.Side.TheVariants.{After}
+use Rattle.wt_grid.specs.declared.axis.Axis.TheVariants.{One, Two}
 use Rattle.std.specs.Prelude.{ℕ, take, None, Some}
 use Rattle.wt_tile.specs.declared.tile.Tile.{Tile}
 use Rattle.wt_tile.specs.declared.tile.TileList.{TileList}
-use Rattle.wt_tile.specs.declared.tile.Axis.TheVariants.{One, Two}
-use Rattle.wt_tile.specs.declared.tile.Side.TheVariants.{After}
 use Rattle.wt_tile.specs.Sets.{set_fault}
 use Rattle.wt_tile.specs.Matching.{matches}
-use Rattle.wt_morphism.specs.declared.image.Image.{Image}
-use Rattle.wt_morphism.specs.declared.image.Image.TheVariants.{One as Single, Two as Double}
 use Rattle.wt_step.specs.declared.raw.RawStep.{RawStep}
 use Rattle.wt_step.specs.declared.raw.StepFault.TheVariants.{MissingPair}
 use Rattle.wt_step.specs.Faults.{shape_fault, rules_fault, step_fault}

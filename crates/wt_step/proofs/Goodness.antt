@@ -1,8 +1,9 @@
 -- A step without a fault is good, and a good step has no fault.
 use Rattle.std.proofs.Common.{arith, ◌≡◌, ◌≤◌, ◌<◌, ◌+◌, ℕ, zero, suc, List, [], ◌∷◌, length, take, Option, None, option_map, Bool, true, false, ◌&&◌, ◌||◌, not, nat_eq, nat_le, if◌then◌else◌, refl, sym, ◌∙◌, ap}
+use Rattle.wt_grid.specs.declared.image.Image.TheVariants.{One as Single, Two as Double}
+use Rattle.wt_grid.specs.declared.axis.Axis.TheVariants.{One, Two}
+use Rattle.wt_grid.specs.declared.axis.Axis.{Axis}
 use Rattle.std.proofs.lemmas.Bool.Decides.{nat_tests}
-use Rattle.wt_tile.specs.declared.tile.Axis.{Axis}
-use Rattle.wt_tile.specs.declared.tile.Axis.TheVariants.{One, Two}
 use Rattle.wt_tile.specs.Sets.{set_fault}
 use Rattle.wt_tile.specs.Matching.{matches}
 use Rattle.wt_grid.specs.First.{or_else, first_from}
@@ -10,7 +11,6 @@ use Rattle.wt_grid.specs.Order.{has, first_in, agree}
 use Rattle.wt_grid.proofs.First.{neither, none_from}
 use Rattle.wt_grid.proofs.Order.{both}
 use Rattle.wt_step.specs.declared.raw.RawStep.{RawStep}
-use Rattle.wt_morphism.specs.declared.image.Image.TheVariants.{One as Single, Two as Double}
 use Rattle.wt_step.specs.declared.raw.StepFault.{StepFault}
 use Rattle.wt_step.specs.declared.raw.StepFault.TheVariants.{Radius, Fine, Coarse, Markers, Allowed, RefutedList, Images, Pair, Marker, Image as BadImage, MissingTile, MissingPair, Join}
 use Rattle.wt_step.specs.Words.{same_image, allowed, is_barred, is_block, image_at, images_match}

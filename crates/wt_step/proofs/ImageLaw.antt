@@ -1,24 +1,25 @@
 -- Each valid coarse pattern of a good step has an image, and that is valid.
 use Rattle.std.proofs.Common.{arith, ◌≡◌, ◌<◌, ℕ, zero, suc, List, [], ◌∷◌, length, get_or, Bool, true, false, ◌&&◌, ◌||◌, not, nat_eq, nat_lt, if◌then◌else◌, refl, sym, ◌∙◌, ap, subst}
+use Rattle.wt_grid.specs.Axes.{other}
+use Rattle.wt_grid.specs.declared.image.Image.TheVariants.{One as Single, Two as Double}
+use Rattle.wt_grid.specs.declared.image.Image.{Image}
+use Rattle.wt_grid.specs.declared.axis.Axis.{Axis}
 use Rattle.std.proofs.lemmas.Bool.Decides.{nat_tests}
 use Rattle.std.proofs.lemmas.List.{length-map}
 use Rattle.std.proofs.Math.ListN.{get_or-map}
-use Rattle.wt_tile.specs.declared.tile.Axis.{Axis}
-use Rattle.wt_tile.specs.Matching.{matches, other, grid_axis, matching}
+use Rattle.wt_tile.specs.Matching.{matches}
 use Rattle.wt_pattern.specs.Patterns.{IsPattern}
 use Rattle.wt_grid.specs.Order.{all_of}
 use Rattle.wt_grid.proofs.Order.{both}
-use Rattle.wt_grid.specs.Lines.{Piece, IsImage}
+use Rattle.wt_grid.specs.Lines.{IsImage}
 use Rattle.wt_grid.specs.Grid.{Grid, lines}
 use Rattle.wt_grid.specs.Parts.{AllBelow}
 use Rattle.wt_grid.specs.Images.{piece_at, is_pair, PieceBelow, image_grid}
 use Rattle.wt_grid.specs.Images.{first_tile as first_of, last_tile as last_of}
 use Rattle.wt_grid.proofs.Coarse.{MatchAcross}
 use Rattle.wt_grid.proofs.ImageGrids.{valid_image}
-use Rattle.wt_morphism.specs.declared.image.Image.{Image}
-use Rattle.wt_morphism.specs.declared.image.Image.TheVariants.{One as Single, Two as Double}
 use Rattle.wt_step.specs.declared.raw.RawStep.{RawStep}
-use Rattle.wt_step.specs.Words.{allows, is_block, image_at, image_fits, images_match, first_tile, last_tile, pieces_match, times}
+use Rattle.wt_step.specs.Words.{allows, is_block, image_at, image_fits, images_match, pieces_match, times}
 use Rattle.wt_step.specs.Faults.{is_good_image}
 use Rattle.wt_step.specs.Good.{GoodStep}
 use Rattle.wt_morphism.specs.Images.{piece}
@@ -37,11 +38,11 @@ fit_below : (n : ℕ) (x : Image) → image_fits n x ≡ true → PieceBelow n (
 fit_below n (Single a) h = grind (arith, nat_tests, h)
 fit_below n (Double a b) h = let f = both (nat_lt a n) (nat_lt b n) h in (grind (arith, nat_tests, f.0), grind (arith, nat_tests, f.1))
 
-first_is : (x : Image) → first_of (piece x) ≡ first_tile x
+first_is : (x : Image) → first_of (piece x) ≡ first_of x
 first_is (Single a) = refl
 first_is (Double a b) = refl
 
-last_is : (x : Image) → last_of (piece x) ≡ last_tile x
+last_is : (x : Image) → last_of (piece x) ≡ last_of x
 last_is (Single a) = refl
 last_is (Double a b) = refl
 
@@ -76,17 +77,17 @@ module _ (s : RawStep) (g : GoodStep s) where
 
   joined : (i j : ℕ) → i < length (pieces s) → j < length (pieces s) → matches s.coarse.tiles s.axis i j ≡ true → matches s.fine.tiles s.axis (last_of (piece_at (pieces s) i)) (first_of (piece_at (pieces s) j)) ≡ true
   joined i j li lj m =
-      let k : matches s.fine.tiles s.axis (last_tile (image_at s i)) (first_tile (image_at s j)) ≡ true = rw (same_itself s.axis) at (joined_match s.axis i j li lj m) in
-      let e : last_of (piece_at (pieces s) i) ≡ last_tile (image_at s i) = ap last_of (at_piece i) ∙ last_is (image_at s i) in
-      let f : first_of (piece_at (pieces s) j) ≡ first_tile (image_at s j) = ap first_of (at_piece j) ∙ first_is (image_at s j) in
+      let k : matches s.fine.tiles s.axis (last_of (image_at s i)) (first_of (image_at s j)) ≡ true = rw (same_itself s.axis) at (joined_match s.axis i j li lj m) in
+      let e : last_of (piece_at (pieces s) i) ≡ last_of (image_at s i) = ap last_of (at_piece i) ∙ last_is (image_at s i) in
+      let f : first_of (piece_at (pieces s) j) ≡ first_of (image_at s j) = ap first_of (at_piece j) ∙ first_is (image_at s j) in
       rw (e, f) k
 
   stacked : (i j : ℕ) → i < length (pieces s) → j < length (pieces s) → matches s.coarse.tiles (other s.axis) i j ≡ true → MatchAcross (matches s.fine.tiles (other s.axis)) (piece_at (pieces s) i) (piece_at (pieces s) j)
   stacked i j li lj m =
       let k : pieces_match s.fine.tiles (other s.axis) (image_at s i) (image_at s j) ≡ true = rw (not_other s.axis) at (joined_match (other s.axis) i j li lj m) in
       let p = piecewise s.fine.tiles (other s.axis) (image_at s i) (image_at s j) k in
-      subst (λ (x : Piece). MatchAcross (matches s.fine.tiles (other s.axis)) x (piece_at (pieces s) j)) (sym (at_piece i))
-      (subst (λ (y : Piece). MatchAcross (matches s.fine.tiles (other s.axis)) (piece (image_at s i)) y) (sym (at_piece j)) p)
+      subst (λ (x : Image). MatchAcross (matches s.fine.tiles (other s.axis)) x (piece_at (pieces s) j)) (sym (at_piece i))
+      (subst (λ (y : Image). MatchAcross (matches s.fine.tiles (other s.axis)) (piece (image_at s i)) y) (sym (at_piece j)) p)
 
   block_of : (x : Image) → is_good_image s x ≡ true → is_pair (piece x) ≡ true → matches s.fine.tiles s.axis (first_of (piece x)) (last_of (piece x)) ≡ true
   block_of (Single a) h p = absurd cc
@@ -95,21 +96,21 @@ module _ (s : RawStep) (g : GoodStep s) where
   blocks : (i : ℕ) → i < length (pieces s) → is_pair (piece_at (pieces s) i) ≡ true → matches s.fine.tiles s.axis (first_of (piece_at (pieces s) i)) (last_of (piece_at (pieces s) i)) ≡ true
   blocks i li p =
       let n = images_long in
-      subst (λ (x : Piece). matches s.fine.tiles s.axis (first_of x) (last_of x) ≡ true) (sym (at_piece i))
-      (block_of (image_at s i) (g.images i (omega arith)) (subst (λ (x : Piece). is_pair x ≡ true) (at_piece i) p))
+      subst (λ (x : Image). matches s.fine.tiles s.axis (first_of x) (last_of x) ≡ true) (sym (at_piece i))
+      (block_of (image_at s i) (g.images i (omega arith)) (subst (λ (x : Image). is_pair x ≡ true) (at_piece i) p))
 
   tiles : (i : ℕ) → i < length (pieces s) → PieceBelow (length s.fine.tiles) (piece_at (pieces s) i)
   tiles i li =
       let n = images_long in
       let f = (both (nat_eq (length s.images) (length s.coarse.tiles)) (all_of (image_fits (length s.fine.tiles)) s.images) g.shaped.images).1 in
-      subst (λ (x : Piece). PieceBelow (length s.fine.tiles) x) (sym (at_piece i)) (fit_below (length s.fine.tiles) (image_at s i) (fit_at (length s.fine.tiles) s.images i f (omega arith)))
+      subst (λ (x : Image). PieceBelow (length s.fine.tiles) x) (sym (at_piece i)) (fit_below (length s.fine.tiles) (image_at s i) (fit_at (length s.fine.tiles) s.images i f (omega arith)))
 
   pub image_valid : (q : Grid) → IsPattern s.coarse.tiles q
-      → IsPattern s.fine.tiles (image_grid (grid_axis s.axis) (pieces s) q) × IsImage (pieces s) (lines (grid_axis s.axis) q) (lines (grid_axis s.axis) (image_grid (grid_axis s.axis) (pieces s) q))
+      → IsPattern s.fine.tiles (image_grid s.axis (pieces s) q) × IsImage (pieces s) (lines s.axis q) (lines s.axis (image_grid s.axis (pieces s) q))
   image_valid q p =
-      let f = matching s.fine.tiles in
-      let c = matching s.coarse.tiles in
-      let a = grid_axis s.axis in
+      let f = matches s.fine.tiles in
+      let c = matches s.coarse.tiles in
+      let a = s.axis in
       let r = valid_image a f c (pieces s) (length s.fine.tiles)
       (λ i j li lj m. subst (λ (u : Axis). matches s.fine.tiles u (last_of (piece_at (pieces s) i)) (first_of (piece_at (pieces s) j)) ≡ true) (sym (tile_grid s.axis))
       (joined i j li lj (subst (λ (u : Axis). matches s.coarse.tiles u i j ≡ true) (tile_grid s.axis) m)))

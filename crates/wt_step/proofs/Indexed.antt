@@ -1,5 +1,7 @@
 -- Lists with the numbers of images noted at their tiles.
 use Rattle.std.proofs.Common.{arith, ◌≡◌, ◌≤◌, ◌<◌, ◌+◌, ◌*◌, ◌/◌, ◌%◌, ℕ, zero, suc, List, [], ◌∷◌, length, get_or, set, slice_get, slice_index_or, Some, Bool, true, nat_eq, nat_lt, refl, sym, ◌∙◌, ap, subst, inl, inr}
+use Rattle.wt_grid.specs.declared.image.Image.TheVariants.{One as Single, Two as Double}
+use Rattle.wt_grid.specs.declared.image.Image.{Image}
 use Rattle.std.proofs.lemmas.Bool.{cases_lt}
 use Rattle.std.proofs.lemmas.Bool.Decides.{nat_tests}
 use Rattle.std.proofs.lemmas.List.{get_or-set_same, get_or-set_other, length-set}
@@ -8,8 +10,6 @@ use Rattle.wt_tile.proofs.Sizes.{few_tiles}
 use Rattle.wt_grid.specs.Order.{all_of}
 use Rattle.wt_grid.proofs.Order.{both}
 use Rattle.wt_step.specs.declared.raw.RawStep.{RawStep}
-use Rattle.wt_morphism.specs.declared.image.Image.{Image}
-use Rattle.wt_morphism.specs.declared.image.Image.TheVariants.{One as Single, Two as Double}
 use Rattle.wt_step.specs.Words.{image_fits, image_at}
 use Rattle.wt_step.specs.Good.{GoodStep}
 use Rattle.wt_step.specs.Blocks.{IsIndexed, note_single, note_pair}

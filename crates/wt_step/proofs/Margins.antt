@@ -2,7 +2,6 @@
 use Rattle.std.proofs.Common.{arith, ◌≡◌, ◌≤◌, ℕ, length, List, None, true, nat_le}
 use Rattle.std.proofs.lemmas.Bool.Decides.{nat_tests}
 use Rattle.wt_tile.specs.declared.tile.Tile.{Tile}
-use Rattle.wt_tile.specs.Matching.{grid_axis}
 use Rattle.wt_grid.specs.Grid.{Grid, along, across}
 use Rattle.wt_grid.specs.Parts.{core}
 use Rattle.wt_grid.proofs.Order.{both}
@@ -18,11 +17,11 @@ use Rattle.wt_step.specs.Coarse.{has_margin}
 at_least : (k n : ℕ) → nat_le k n ≡ true → k ≤ n
 at_least k n e = grind (arith, nat_tests, e)
 
-pub marker_long : (s : RawStep) (p : Grid) → has_margin (Marker s) p ≡ true → 3 ≤ along (grid_axis s.axis) (core s.radius p)
-marker_long s p e = at_least 3 (along (grid_axis s.axis) (core s.radius p)) (both (nat_le 3 (along (grid_axis s.axis) (core s.radius p))) (nat_le 1 (across (grid_axis s.axis) (core s.radius p))) e).0
+pub marker_long : (s : RawStep) (p : Grid) → has_margin (Marker s) p ≡ true → 3 ≤ along s.axis (core s.radius p)
+marker_long s p e = at_least 3 (along s.axis (core s.radius p)) (both (nat_le 3 (along s.axis (core s.radius p))) (nat_le 1 (across s.axis (core s.radius p))) e).0
 
-pub marker_wide : (s : RawStep) (p : Grid) → has_margin (Marker s) p ≡ true → 1 ≤ across (grid_axis s.axis) (core s.radius p)
-marker_wide s p e = at_least 1 (across (grid_axis s.axis) (core s.radius p)) (both (nat_le 3 (along (grid_axis s.axis) (core s.radius p))) (nat_le 1 (across (grid_axis s.axis) (core s.radius p))) e).1
+pub marker_wide : (s : RawStep) (p : Grid) → has_margin (Marker s) p ≡ true → 1 ≤ across s.axis (core s.radius p)
+marker_wide s p e = at_least 1 (across s.axis (core s.radius p)) (both (nat_le 3 (along s.axis (core s.radius p))) (nat_le 1 (across s.axis (core s.radius p))) e).1
 
 pub kept_wide : (s : RawRestrict) (p : Grid) → has_margin (Restrict s) p ≡ true → 1 ≤ (core s.radius p).width
 kept_wide s p e = at_least 1 (core s.radius p).width (both (nat_le 1 (core s.radius p).width) (nat_le 1 (core s.radius p).height) e).0

@@ -1,13 +1,14 @@
 -- What a walk along a list in strict order sees of it at its place.
 use Rattle.std.proofs.Common.{arith, ◌≡◌, ◌<◌, ◌≤◌, ◌+◌, ℕ, zero, suc, List, [], ◌∷◌, length, get_or, Bool, true, false, ◌&&◌, ◌||◌, nat_eq, nat_lt, nat_le, if◌then◌else◌, Some, None, is_some, refl, sym, ◌∙◌, ap, inl, inr}
+use Rattle.wt_grid.specs.Axes.{axis_number}
+use Rattle.wt_grid.specs.declared.axis.Axis.{Axis}
 use Rattle.std.proofs.lemmas.Bool.Decides.{nat_tests}
-use Rattle.wt_tile.specs.declared.tile.Axis.{Axis}
 use Rattle.wt_grid.specs.Order.{in_order, leads, has, find, AllAbove, IsSplit}
 use Rattle.wt_grid.specs.Pairs.{pair_before, is_pair, pairs_follow, pair_fits}
 use Rattle.wt_grid.proofs.Keys.{first_by, by_cases, by_less, pairs_split}
 use Rattle.wt_grid.proofs.Order.{both, has_found, above_none}
 use Rattle.wt_refute.specs.declared.tree.Refuted.{Refuted}
-use Rattle.wt_refute.specs.Entries.{entry_before, is_entry, entries_follow, axis_number}
+use Rattle.wt_refute.specs.Entries.{entry_before, is_entry, entries_follow}
 use Rattle.wt_refute.proofs.Entries.{entries_split}
 use Rattle.wt_step.specs.declared.raw.RawStep.{RawStep}
 use Rattle.wt_step.specs.declared.walk.Places.{Places}

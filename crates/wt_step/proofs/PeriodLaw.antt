@@ -1,11 +1,10 @@
 -- A period of a valid pattern is a period of its coarse pattern.
 use Rattle.std.proofs.Common.{arith, ◌≤◌, ◌<◌, ◌+◌, ℕ, Bool, true, false, cond, sym, subst}
-use Rattle.wt_tile.specs.declared.tile.Axis.{Axis}
-use Rattle.wt_tile.specs.Matching.{grid_axis, tile_axis}
+use Rattle.wt_grid.specs.Axes.{other}
+use Rattle.wt_grid.specs.declared.axis.Axis.{Axis}
 use Rattle.wt_pattern.specs.Patterns.{IsPattern}
 use Rattle.wt_grid.specs.Grid.{Grid, IsGrid, along, across}
 use Rattle.wt_grid.specs.Parts.{core}
-use Rattle.wt_grid.specs.Parts.{other as other_grid}
 use Rattle.wt_grid.specs.Lines.{IsGood}
 use Rattle.wt_grid.specs.Cuts.{table}
 use Rattle.wt_grid.specs.Shifts.{HasVector}
@@ -13,7 +12,7 @@ use Rattle.wt_grid.proofs.CarriedGrids.{core_repeated, carried_grid}
 use Rattle.wt_step.specs.declared.raw.RawStep.{RawStep}
 use Rattle.wt_step.specs.Words.{allows, is_marker}
 use Rattle.wt_step.specs.Good.{GoodStep}
-use Rattle.wt_step.specs.Meaning.{line_side, allowing, pieces, IsCoarse}
+use Rattle.wt_step.specs.Meaning.{allowing, pieces, IsCoarse}
 use Rattle.wt_step.specs.Carried.{IsCarried}
 use Rattle.wt_step.proofs.Cores.{core_allowed}
 use Rattle.wt_step.proofs.Tables.{good_table}
@@ -28,17 +27,17 @@ lag true e n lt le = le
 lag false e n lt le = lt
 
 -- the table of a good step, said with the axes of rectangles
-pub the_table : (s : RawStep) → GoodStep s → IsGood (table (line_side s.side) (allowing s (grid_axis s.axis)) (allowing s (other_grid (grid_axis s.axis))) (is_marker s) (pieces s))
+pub the_table : (s : RawStep) → GoodStep s → IsGood (table s.side (allowing s s.axis) (allowing s (other s.axis)) (is_marker s) (pieces s))
 the_table s g =
-    subst (λ (u : Axis). IsGood (table (line_side s.side) (allows s u) (allows s (tile_axis (other_grid (grid_axis s.axis)))) (is_marker s) (pieces s))) (sym (tile_grid s.axis))
-    (subst (λ (v : Axis). IsGood (table (line_side s.side) (allows s s.axis) (allows s v) (is_marker s) (pieces s))) (sym (tile_other s.axis)) (good_table s g))
+    subst (λ (u : Axis). IsGood (table s.side (allows s u) (allows s ((other s.axis))) (is_marker s) (pieces s))) (sym (tile_grid s.axis))
+    (subst (λ (v : Axis). IsGood (table s.side (allows s s.axis) (allows s v) (is_marker s) (pieces s))) (sym (tile_other s.axis)) (good_table s g))
 
 pub carried : (s : RawStep) → GoodStep s → (p q : Grid) → IsPattern s.fine.tiles p → IsGrid q → IsCoarse s p q → (opposed : Bool) (d e : ℕ)
-    → d + 3 ≤ along (grid_axis s.axis) (core s.radius p) → e < across (grid_axis s.axis) (core s.radius p) → HasVector (grid_axis s.axis) opposed d e p → (n : ℕ) × IsCarried s opposed d e n q
+    → d + 3 ≤ along s.axis (core s.radius p) → e < across s.axis (core s.radius p) → HasVector s.axis opposed d e p → (n : ℕ) × IsCarried s opposed d e n q
 carried s g p q v iq i opposed d e la lc h =
-    let a = grid_axis s.axis in
+    let a = s.axis in
     let c = core s.radius p in
-    let k = carried_grid a (line_side s.side) (allowing s) (is_marker s) (pieces s) (the_table s g) c q d (cond opposed e 0) (cond opposed 0 e)
+    let k = carried_grid a s.side (allowing s) (is_marker s) (pieces s) (the_table s g) c q d (cond opposed e 0) (cond opposed 0 e)
     (core_allowed s g p v.1 v.2) iq i la (lead opposed e (across a c) lc (omega arith)) (lag opposed e (across a c) lc (omega arith))
     (core_repeated a s.radius d (cond opposed e 0) (cond opposed 0 e) p h) in
     (k.0, record { vector = k.1.repeated; filled = k.1.filled; few = k.1.few; shorter = k.1.shorter; half = k.1.doubled })

@@ -1,16 +1,15 @@
 -- The places of kept tiles, and the coarse rectangle that is read by them.
 use Rattle.std.proofs.Common.{arith, ◌≡◌, ◌≤◌, ◌<◌, ◌+◌, ◌&&◌, ℕ, zero, suc, List, [], ◌∷◌, length, get_or, set, slice_get, slice_index, Some, option_map, true, nat_eq, nat_lt, refl, sym, ◌∙◌, ap, subst, inl, inr}
+use Rattle.wt_grid.specs.declared.image.Image.TheVariants.{One as Single}
+use Rattle.wt_grid.specs.declared.axis.Axis.TheVariants.{One}
 use Rattle.std.proofs.lemmas.Bool.{cases_lt}
 use Rattle.std.proofs.lemmas.Bool.Decides.{nat_tests}
 use Rattle.std.proofs.lemmas.Option.{slice_get-map}
 use Rattle.std.proofs.lemmas.List.{get_or-set_same, get_or-set_other, length-set}
-use Rattle.wt_tile.specs.declared.tile.Axis.TheVariants.{One}
 use Rattle.wt_tile.proofs.Sizes.{few_tiles}
 use Rattle.wt_grid.specs.Order.{in_order, leads, follows, is_below}
 use Rattle.wt_grid.proofs.Order.{both}
-use Rattle.wt_grid.specs.Lines.{one}
 use Rattle.wt_grid.specs.Grid.{Grid, cell, grid_of}
-use Rattle.wt_grid.specs.Grid.{one as first_axis}
 use Rattle.wt_grid.specs.Parts.{core}
 use Rattle.wt_grid.proofs.Parts.{at_core, along_core, across_core, grid_grid}
 use Rattle.wt_grid.proofs.Bridge.{cell_of}
@@ -74,24 +73,24 @@ module _ (s : RawRestrict) (g : GoodRestrict s) where
       (places : List ℕ) (placed : IsPlaced s.kept (length s.fine.tiles) (length s.kept) places) where
     core_cell : (x y : ℕ) → x < (core s.radius p).width → y < (core s.radius p).height → cell (core s.radius p) x y ≡ cell_at p One (s.radius + x) (s.radius + y)
     core_cell x y lx ly =
-        let a = along_core first_axis s.radius p in
-        let b = across_core first_axis s.radius p in
+        let a = along_core One s.radius p in
+        let b = across_core One s.radius p in
         let tx : nat_lt (s.radius + x) p.width ≡ true = (let lt : s.radius + x < p.width = omega arith in grind (arith, nat_tests, lt)) in
         let ty : nat_lt (s.radius + y) p.height ≡ true = (let lt : s.radius + y < p.height = omega arith in grind (arith, nat_tests, lt)) in
-        at_core first_axis s.radius p x y lx ly ∙ sym (rw (tx, ty) refl)
+        at_core One s.radius p x y lx ly ∙ sym (rw (tx, ty) refl)
 
-    stands : (x y : ℕ) → x < (core s.radius p).width → y < (core s.radius p).height → slice_get (kept_pieces s) (kept_tile s p places x y) ≡ Some (one (cell (core s.radius p) x y))
+    stands : (x y : ℕ) → x < (core s.radius p).width → y < (core s.radius p).height → slice_get (kept_pieces s) (kept_tile s p places x y) ≡ Some (Single (cell (core s.radius p) x y))
     stands x y lx ly =
         let t = cell (core s.radius p) x y in
         let k = kept_place s.kept t (core_kept s g p h x y lx ly) in
         let i : kept_tile s p places x y ≡ k.0 = ap (slice_index places) (sym (core_cell x y lx ly)) ∙ placed.at k.0 t (some_of s.kept k.0 t 0 k.1).0 k.1 in
-        slice_get-map one s.kept (kept_tile s p places x y) ∙ ap (option_map one) (ap (slice_get s.kept) i ∙ k.1)
+        slice_get-map Single s.kept (kept_tile s p places x y) ∙ ap (option_map Single) (ap (slice_get s.kept) i ∙ k.1)
 
     abbrev it : Grid
     it = grid_of (core s.radius p).width (core s.radius p).height (kept_tile s p places)
 
     kept : IsKept s p it
-    kept = stand_image (kept_pieces s) first_axis it (core s.radius p) (
+    kept = stand_image (kept_pieces s) One it (core s.radius p) (
       refl,
       refl,
       λ x y lx ly.

@@ -1,12 +1,13 @@
 -- The blocks of a cut core are read as the coarse lines whose image it is.
 use Rattle.std.proofs.Common.{arith, ◌≡◌, ◌<◌, ◌+◌, ℕ, zero, suc, List, [], ◌∷◌, length, get_or, slice_get, Some, Bool, true, false, refl, sym, ◌∙◌, ap, subst, inl, inr}
+use Rattle.wt_grid.specs.declared.image.Image.TheVariants.{One as Single, Two as Double}
+use Rattle.wt_grid.specs.declared.image.Image.{Image}
+use Rattle.wt_grid.specs.declared.axis.Side.TheVariants.{After, Before}
+use Rattle.wt_grid.specs.declared.axis.Side.{Side}
 use Rattle.std.proofs.lemmas.Option.{slice_get-map}
-use Rattle.wt_tile.specs.declared.tile.Side.{Side}
-use Rattle.wt_tile.specs.declared.tile.Side.TheVariants.{After, Before}
-use Rattle.wt_grid.specs.Lines.{Piece, one, two, Singles, Pairs, IsImage}
+use Rattle.wt_grid.specs.Lines.{Singles, Pairs, IsImage}
 use Rattle.wt_grid.specs.Grid.{Grid, listed}
 use Rattle.wt_grid.proofs.Bridge.{get_or-listed, length-listed}
-use Rattle.wt_morphism.specs.declared.image.Image.TheVariants.{One as Single, Two as Double}
 use Rattle.wt_step.specs.declared.raw.RawStep.{RawStep}
 use Rattle.wt_step.specs.declared.blocks.Block.{Block}
 use Rattle.wt_step.specs.Words.{is_marker, joined}
@@ -29,14 +30,14 @@ none_joined Before x e = refl
 clash : (x : Bool) → x ≡ true → x ≡ false → ⊥
 clash x e f = cc
 
-singles_at : (im : List Piece) (q u : List ℕ) → Singles im q u → (j : ℕ) → j < length u → slice_get im (get_or q j 0) ≡ Some (one (get_or u j 0))
+singles_at : (im : List Image) (q u : List ℕ) → Singles im q u → (j : ℕ) → j < length u → slice_get im (get_or q j 0) ≡ Some (Single (get_or u j 0))
 singles_at im [] [] h j lt = absurd (omega arith)
 singles_at im [] (a ∷ as') h j lt = absurd h
 singles_at im (k ∷ ks) [] h j lt = absurd h
 singles_at im (k ∷ ks) (a ∷ as') h zero lt = h.0
 singles_at im (k ∷ ks) (a ∷ as') h (suc j) lt = singles_at im ks as' h.1 j (omega arith)
 
-pairs_in : (im : List Piece) (q u v : List ℕ) → Pairs im q u v → (j : ℕ) → j < length u → slice_get im (get_or q j 0) ≡ Some (two (get_or u j 0) (get_or v j 0))
+pairs_in : (im : List Image) (q u v : List ℕ) → Pairs im q u v → (j : ℕ) → j < length u → slice_get im (get_or q j 0) ≡ Some (Double (get_or u j 0) (get_or v j 0))
 pairs_in im [] [] [] h j lt = absurd (omega arith)
 pairs_in im [] [] (b ∷ bs) h j lt = absurd h
 pairs_in im [] (a ∷ as') v h j lt = absurd h
@@ -46,17 +47,17 @@ pairs_in im (k ∷ ks) (a ∷ as') (b ∷ bs) h zero lt = h.0
 pairs_in im (k ∷ ks) (a ∷ as') (b ∷ bs) h (suc j) lt = pairs_in im ks as' bs h.1 j (omega arith)
 
 -- a block's lines are the image of a coarse line
-abbrev OneRead : List Piece → (ℕ → List ℕ) → Bool → ℕ → List ℕ → Type 0
+abbrev OneRead : List Image → (ℕ → List ℕ) → Bool → ℕ → List ℕ → Type 0
 OneRead im line true i q = Pairs im q (line i) (line (i + 1))
 OneRead im line false i q = Singles im q (line i)
 
-abbrev pub Reads : List Piece → (ℕ → List ℕ) → List Block → List (List ℕ) → Type 0
+abbrev pub Reads : List Image → (ℕ → List ℕ) → List Block → List (List ℕ) → Type 0
 Reads im line [] [] = Unit {0}
 Reads im line [] (q ∷ qs) = ⊥
 Reads im line (b ∷ bs) [] = ⊥
 Reads im line (b ∷ bs) (q ∷ qs) = OneRead im line b.double b.line q × Reads im line bs qs
 
-pub length-reads : (im : List Piece) (line : ℕ → List ℕ) (bs : List Block) (qs : List (List ℕ)) → Reads im line bs qs → length bs ≡ length qs
+pub length-reads : (im : List Image) (line : ℕ → List ℕ) (bs : List Block) (qs : List (List ℕ)) → Reads im line bs qs → length bs ≡ length qs
 length-reads im line [] [] r = refl
 length-reads im line [] (q ∷ qs) r = absurd r
 length-reads im line (b ∷ bs) [] r = absurd r
@@ -143,14 +144,14 @@ module _ (s : RawStep) (g : GoodStep s) where
         let h = pairs_in (pieces s) q (listed m (core_at s p i)) (listed m (core_at s p (i + 1))) r j (omega arith) in
         let a = get_or-listed m j (core_at s p i) 0 lt in
         let b = get_or-listed m j (core_at s p (i + 1)) 0 lt in
-        let h' : slice_get (pieces s) (get_or q j 0) ≡ Some (two (core_at s p i j) (core_at s p (i + 1) j)) = rw (a, b) at h in
+        let h' : slice_get (pieces s) (get_or q j 0) ≡ Some (Double (core_at s p i j) (core_at s p (i + 1) j)) = rw (a, b) at h in
         let k = from_pieces (slice_get s.images (get_or q j 0)) (core_at s p i j) (core_at s p (i + 1) j) (sym (slice_get-map piece s.images (get_or q j 0)) ∙ h') in
         sym (index.twos (get_or q j 0) (core_at s p i j) (core_at s p (i + 1) j) (some_of s.images (get_or q j 0) (Double (core_at s p i j) (core_at s p (i + 1) j)) (Single 0) k).0 k)
     one_tile false i q r j lt =
         let size : length (listed m (core_at s p i)) ≡ m = length-listed m (core_at s p i) in
         let h = singles_at (pieces s) q (listed m (core_at s p i)) r j (omega arith) in
         let a = get_or-listed m j (core_at s p i) 0 lt in
-        let h' : slice_get (pieces s) (get_or q j 0) ≡ Some (one (core_at s p i j)) = rw a at h in
+        let h' : slice_get (pieces s) (get_or q j 0) ≡ Some (Single (core_at s p i j)) = rw a at h in
         let k = from_piece (slice_get s.images (get_or q j 0)) (core_at s p i j) (sym (slice_get-map piece s.images (get_or q j 0)) ∙ h') in
         sym (index.ones (get_or q j 0) (core_at s p i j) (some_of s.images (get_or q j 0) (Single (core_at s p i j)) (Single 0) k).0 k)
 

@@ -1,22 +1,23 @@
 -- Good restrict steps, and what they make of valid rectangles.
 use Rattle.std.proofs.Common.{arith, ◌≡◌, ◌≤◌, ◌<◌, ℕ, zero, suc, List, [], ◌∷◌, length, map, slice_get, Option, None, Some, option_map, Bool, true, false, not, nat_eq, nat_lt, nat_le, refl, sym, ◌∙◌, ap, subst, inl}
+use Rattle.wt_grid.specs.declared.image.Image.TheVariants.{One as Single, Two as Double}
+use Rattle.wt_grid.specs.declared.image.Image.{Image}
+use Rattle.wt_grid.specs.declared.axis.Axis.TheVariants.{One, Two}
+use Rattle.wt_grid.specs.declared.axis.Axis.{Axis}
 use Rattle.std.proofs.lemmas.Bool.Decides.{nat_tests}
 use Rattle.std.proofs.lemmas.Option.{slice_get-map}
 use Rattle.std.proofs.lemmas.List.{length-map}
-use Rattle.wt_tile.specs.declared.tile.Axis.{Axis}
-use Rattle.wt_tile.specs.declared.tile.Axis.TheVariants.{One, Two}
 use Rattle.wt_tile.specs.Sets.{set_fault}
-use Rattle.wt_tile.specs.Matching.{matches, matching}
+use Rattle.wt_tile.specs.Matching.{matches}
 use Rattle.wt_refute.specs.Refutes.{tile_tree_fault}
 use Rattle.wt_refute.proofs.Faults.{absent}
 use Rattle.wt_grid.specs.Order.{in_order, has, first_in, agree, follows, is_below, IsSplit}
 use Rattle.wt_grid.proofs.First.{neither, none_from}
 use Rattle.wt_grid.proofs.Order.{both, split}
-use Rattle.wt_grid.specs.Lines.{Piece, one, two, Table, IsGood, Singles, IsImage}
+use Rattle.wt_grid.specs.Lines.{Table, IsGood, Singles, IsImage}
 use Rattle.wt_grid.proofs.Coarse.{first, last, MatchAcross, coarse_field}
 use Rattle.wt_grid.proofs.Desub.{one_parse}
 use Rattle.wt_grid.specs.Grid.{Grid, IsGrid, cell, listed, lines}
-use Rattle.wt_grid.specs.Grid.{one as first_axis}
 use Rattle.wt_grid.specs.Parts.{core, AllBelow}
 use Rattle.wt_grid.proofs.Parts.{core_valid, core_below}
 use Rattle.wt_grid.proofs.Law.{coarse_grid}
@@ -117,27 +118,27 @@ kept_place kept a h =
     let same : r.1 ≡ a = (let e = r.3 in grind (arith, nat_tests, e)) in
     (r.0, r.2 ∙ ap Some same)
 
-kept_singles : (kept u : List ℕ) → AllKept kept u → (q : List ℕ) × Singles (map one kept) q u
+kept_singles : (kept u : List ℕ) → AllKept kept u → (q : List ℕ) × Singles (map Single kept) q u
 kept_singles kept [] h = ([], tt)
 kept_singles kept (a ∷ as') h =
     let r = kept_place kept a h.0 in
     let rest = kept_singles kept as' h.1 in
-    (r.0 ∷ rest.0, (slice_get-map one kept r.0 ∙ ap (option_map one) r.1, rest.1))
+    (r.0 ∷ rest.0, (slice_get-map Single kept r.0 ∙ ap (option_map Single) r.1, rest.1))
 
-kept_image : (kept : List ℕ) (ls : List (List ℕ)) → AllLinesKept kept ls → (qs : List (List ℕ)) × IsImage (map one kept) qs ls
+kept_image : (kept : List ℕ) (ls : List (List ℕ)) → AllLinesKept kept ls → (qs : List (List ℕ)) × IsImage (map Single kept) qs ls
 kept_image kept [] h = ([], tt)
 kept_image kept (u ∷ []) h = let q = kept_singles kept u h.0 in (q.0 ∷ [], (q.1, tt))
 kept_image kept (u ∷ v ∷ ls) h = let q = kept_singles kept u h.0 in let r = kept_image kept (v ∷ ls) h.1 in (q.0 ∷ r.0, inl (q.1, r.1))
 
 -- the kept tile that a piece comes from
-of_one : (o : Option ℕ) (p : Piece) → option_map one o ≡ Some p → (a : ℕ) × (o ≡ Some a) × (one a ≡ p)
+of_one : (o : Option ℕ) (p : Image) → option_map Single o ≡ Some p → (a : ℕ) × (o ≡ Some a) × (Single a ≡ p)
 of_one None p e = absurd cc
-of_one (Some a) p e = let f : Some (one a) ≡ Some p = e in (a, refl, cc)
+of_one (Some a) p e = let f : Some (Single a) ≡ Some p = e in (a, refl, cc)
 
-one_first : (a : ℕ) (p : Piece) → one a ≡ p → first p ≡ a
+one_first : (a : ℕ) (p : Image) → Single a ≡ p → first p ≡ a
 one_first a p e = ap first (sym e)
 
-one_last : (a : ℕ) (p : Piece) → one a ≡ p → last p ≡ a
+one_last : (a : ℕ) (p : Image) → Single a ≡ p → last p ≡ a
 one_last a p e = ap last (sym e)
 
 numbers_split : (n a : ℕ) (xs : List ℕ) → in_order (is_below n) follows xs ≡ true → IsSplit (λ x. nat_lt x a) (nat_eq a) xs
@@ -156,7 +157,7 @@ module _ (s : RawRestrict) (g : GoodRestrict s) where
       go true e = e
       go false e =
           let t = cell (core s.radius c) x y in
-          let below = core_below first_axis (length s.fine.tiles) s.radius c p.1 x y lx ly in
+          let below = core_below One (length s.fine.tiles) s.radius c p.1 x y lx ly in
           let lost : is_lost s t ≡ true = g.sorted.sorted t below ∙ rw e refl in
           let l = has_some (loses t) s.lost lost in
           let same : t ≡ l.1.tile = (let f = l.3 in grind (arith, nat_tests, f)) in
@@ -173,47 +174,47 @@ module _ (s : RawRestrict) (g : GoodRestrict s) where
       g.joins axis i j (omega arith) (omega arith)
       ∙ (subst (λ (u : ℕ). matches s.fine.tiles axis u (kept_at s j) ≡ true) (sym x.1) (subst (λ (v : ℕ). matches s.fine.tiles axis a v ≡ true) (sym y.1) m))
 
-  joins : (i j : ℕ) (p r : Piece) → slice_get (kept_pieces s) i ≡ Some p → slice_get (kept_pieces s) j ≡ Some r → matches s.fine.tiles One (last p) (first r) ≡ true → matches s.coarse.tiles One i j ≡ true
+  joins : (i j : ℕ) (p r : Image) → slice_get (kept_pieces s) i ≡ Some p → slice_get (kept_pieces s) j ≡ Some r → matches s.fine.tiles One (last p) (first r) ≡ true → matches s.coarse.tiles One i j ≡ true
   joins i j p r e f m =
-      let x = of_one (slice_get s.kept i) p (sym (slice_get-map one s.kept i) ∙ e) in
-      let y = of_one (slice_get s.kept j) r (sym (slice_get-map one s.kept j) ∙ f) in
+      let x = of_one (slice_get s.kept i) p (sym (slice_get-map Single s.kept i) ∙ e) in
+      let y = of_one (slice_get s.kept j) r (sym (slice_get-map Single s.kept j) ∙ f) in
       kept_joined One i j x.0 y.0 x.1 y.1 (subst (λ (v : ℕ). matches s.fine.tiles One x.0 v ≡ true) (one_first y.0 r y.2) (subst (λ (u : ℕ). matches s.fine.tiles One u (first r) ≡ true) (one_last x.0 p x.2) m))
 
-  stacks : (i j : ℕ) (p r : Piece) → slice_get (kept_pieces s) i ≡ Some p → slice_get (kept_pieces s) j ≡ Some r → MatchAcross (matches s.fine.tiles Two) p r → matches s.coarse.tiles Two i j ≡ true
+  stacks : (i j : ℕ) (p r : Image) → slice_get (kept_pieces s) i ≡ Some p → slice_get (kept_pieces s) j ≡ Some r → MatchAcross (matches s.fine.tiles Two) p r → matches s.coarse.tiles Two i j ≡ true
   stacks i j p r e f m =
-      let x = of_one (slice_get s.kept i) p (sym (slice_get-map one s.kept i) ∙ e) in
-      let y = of_one (slice_get s.kept j) r (sym (slice_get-map one s.kept j) ∙ f) in
-      let m' : MatchAcross (matches s.fine.tiles Two) (one x.0) (one y.0) = subst (λ (v : Piece). MatchAcross (matches s.fine.tiles Two) (one x.0) v) (sym y.2) (subst (λ (u : Piece). MatchAcross (matches s.fine.tiles Two) u r) (sym x.2) m) in
+      let x = of_one (slice_get s.kept i) p (sym (slice_get-map Single s.kept i) ∙ e) in
+      let y = of_one (slice_get s.kept j) r (sym (slice_get-map Single s.kept j) ∙ f) in
+      let m' : MatchAcross (matches s.fine.tiles Two) (Single x.0) (Single y.0) = subst (λ (v : Image). MatchAcross (matches s.fine.tiles Two) (Single x.0) v) (sym y.2) (subst (λ (u : Image). MatchAcross (matches s.fine.tiles Two) u r) (sym x.2) m) in
       kept_joined Two i j x.0 y.0 x.1 y.1 m'
 
   -- each valid rectangle whose core has a cell has a coarse one, and that is valid
   pub some_kept : (c : Grid) → IsPattern s.fine.tiles c → 1 ≤ (core s.radius c).width → 1 ≤ (core s.radius c).height → (q : Grid) × IsKept s c q × IsPattern s.coarse.tiles q
   some_kept c p lw lh =
       let d = core s.radius c in
-      let ls = lines first_axis d in
+      let ls = lines One d in
       let r = kept_image s.kept ls (kept_lines s.kept d.width d.height (λ i j. cell d i j) (core_kept c p)) in
-      let n : 1 ≤ length ls = (let e = length_lines first_axis d in omega arith) in
-      let q = coarse_grid first_axis (kept_pieces s) d.height r.0 ls lh n (long_lines first_axis d) r.1 in
-      let i : IsImage (kept_pieces s) (lines first_axis q.0) ls = (let P : List (List ℕ) → Type 0 = λ qs. IsImage (kept_pieces s) qs ls in subst P (sym q.2) r.1) in
-      let f = coarse_field (kept_pieces s) (matches s.fine.tiles One) (matches s.fine.tiles Two) (matches s.coarse.tiles One) (matches s.coarse.tiles Two) joins stacks ls (lines first_axis q.0) i
-      (field_lines (matching s.fine.tiles) first_axis d (core_valid (matching s.fine.tiles) s.radius c p.2)) in
-      let m : length (kept_pieces s) ≡ length s.coarse.tiles = length-map s.kept one ∙ count_kept in
-      (q.0, i, (q.1, subst (λ (n : ℕ). AllBelow n q.0) m (below_lines first_axis (length (kept_pieces s)) q.0 (in_image (kept_pieces s) (lines first_axis q.0) ls i)), lines_field (matching s.coarse.tiles) first_axis q.0 f))
+      let n : 1 ≤ length ls = (let e = length_lines One d in omega arith) in
+      let q = coarse_grid One (kept_pieces s) d.height r.0 ls lh n (long_lines One d) r.1 in
+      let i : IsImage (kept_pieces s) (lines One q.0) ls = (let P : List (List ℕ) → Type 0 = λ qs. IsImage (kept_pieces s) qs ls in subst P (sym q.2) r.1) in
+      let f = coarse_field (kept_pieces s) (matches s.fine.tiles One) (matches s.fine.tiles Two) (matches s.coarse.tiles One) (matches s.coarse.tiles Two) joins stacks ls (lines One q.0) i
+      (field_lines (matches s.fine.tiles) One d (core_valid (matches s.fine.tiles) s.radius c p.2)) in
+      let m : length (kept_pieces s) ≡ length s.coarse.tiles = length-map s.kept Single ∙ count_kept in
+      (q.0, i, (q.1, subst (λ (n : ℕ). AllBelow n q.0) m (below_lines One (length (kept_pieces s)) q.0 (in_image (kept_pieces s) (lines One q.0) ls i)), lines_field (matches s.coarse.tiles) One q.0 f))
 
   pub kept_once : (i j a : ℕ) → slice_get s.kept i ≡ Some a → slice_get s.kept j ≡ Some a → i ≡ j
   kept_once i j a e f =
       let o = (both (in_order (is_below (length s.fine.tiles)) follows s.kept) (nat_eq (length s.kept) (length s.coarse.tiles)) g.sorted.kept).0 in
       one_place (λ z. nat_lt z a) (nat_eq a) s.kept i j a a (numbers_split (length s.fine.tiles) a s.kept o) e f (same_number a) (same_number a)
 
-  ones_apart : (i j : ℕ) (p : Piece) → slice_get (kept_pieces s) i ≡ Some p → slice_get (kept_pieces s) j ≡ Some p → i ≡ j
+  ones_apart : (i j : ℕ) (p : Image) → slice_get (kept_pieces s) i ≡ Some p → slice_get (kept_pieces s) j ≡ Some p → i ≡ j
   ones_apart i j p e f =
-      let x = of_one (slice_get s.kept i) p (sym (slice_get-map one s.kept i) ∙ e) in
-      let y = of_one (slice_get s.kept j) p (sym (slice_get-map one s.kept j) ∙ f) in
+      let x = of_one (slice_get s.kept i) p (sym (slice_get-map Single s.kept i) ∙ e) in
+      let y = of_one (slice_get s.kept j) p (sym (slice_get-map Single s.kept j) ∙ f) in
       let same : x.0 ≡ y.0 = sym (one_first x.0 p x.2) ∙ one_first y.0 p y.2 in
       kept_once i j x.0 x.1 (y.1 ∙ ap Some (sym same))
 
-  no_two : (i a b : ℕ) → slice_get (kept_pieces s) i ≡ Some (two a b) → ⊥
-  no_two i a b e = let x = of_one (slice_get s.kept i) (two a b) (sym (slice_get-map one s.kept i) ∙ e) in let f : one x.0 ≡ two a b = x.2 in cc
+  no_two : (i a b : ℕ) → slice_get (kept_pieces s) i ≡ Some (Double a b) → ⊥
+  no_two i a b e = let x = of_one (slice_get s.kept i) (Double a b) (sym (slice_get-map Single s.kept i) ∙ e) in let f : Single x.0 ≡ Double a b = x.2 in cc
 
   abbrev plain : Table
   plain = record { marker = λ a. false; along = λ a b. false; across = λ a b. false; images = kept_pieces s }
@@ -233,4 +234,4 @@ module _ (s : RawRestrict) (g : GoodRestrict s) where
   pub one_kept : (c q r : Grid) → 1 ≤ (core s.radius c).height → IsGrid q → IsGrid r → IsKept s c q → IsKept s c r → q ≡ r
   one_kept c q r lh iq ir i j =
       let d = core s.radius c in
-      same_lines first_axis q r iq ir (one_parse plain plain_good (lines first_axis d) (lines first_axis q) (lines first_axis r) (filled_long d.height (lines first_axis d) lh (long_lines first_axis d)) i j)
+      same_lines One q r iq ir (one_parse plain plain_good (lines One d) (lines One q) (lines One r) (filled_long d.height (lines One d) lh (long_lines One d)) i j)

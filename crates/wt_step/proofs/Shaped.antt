@@ -1,8 +1,8 @@
 -- Lists without a fault are in order and in range.
 use Rattle.std.proofs.Common.{arith, ◌≡◌, Option, None, Some, option_map, Bool, true, false, length, nat_le, refl}
+use Rattle.wt_grid.specs.declared.axis.Axis.TheVariants.{One, Two}
+use Rattle.wt_grid.specs.declared.axis.Axis.{Axis}
 use Rattle.std.proofs.lemmas.Bool.Decides.{nat_tests}
-use Rattle.wt_tile.specs.declared.tile.Axis.{Axis}
-use Rattle.wt_tile.specs.declared.tile.Axis.TheVariants.{One, Two}
 use Rattle.wt_tile.specs.Sets.{set_fault}
 use Rattle.wt_refute.specs.Entries.{ascends}
 use Rattle.wt_refute.proofs.Entries.{ordered}

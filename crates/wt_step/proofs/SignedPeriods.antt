@@ -1,8 +1,9 @@
 -- Vectors of integers as two lengths, with or without opposite signs.
 use Rattle.std.proofs.Common.{◌≡◌, ℕ, zero, suc, ℤ, pos, negsuc, Bool, true, false, refl}
+use Rattle.wt_grid.specs.declared.axis.Axis.{Axis}
 use Rattle.wt_pattern.specs.Periods.{IsPeriodAlong}
 use Rattle.wt_pattern.proofs.PeriodLaws.{forward_repeated, back_repeated, repeated_forward, repeated_back, opposite_period}
-use Rattle.wt_grid.specs.Grid.{Grid, Axis}
+use Rattle.wt_grid.specs.Grid.{Grid}
 use Rattle.wt_grid.specs.Shifts.{HasVector}
 use Rattle.wt_step.specs.Carried.{magnitude, with_sign}
 

@@ -1,27 +1,27 @@
 -- What a good step allows is a good table of lines.
 use Rattle.std.proofs.Common.{arith, ◌≡◌, ◌<◌, ℕ, zero, suc, List, [], ◌∷◌, length, take, map, slice_get, slice_index_or, Option, None, Some, option_map, Bool, true, false, ◌&&◌, ◌||◌, not, nat_eq, nat_lt, refl, sym, ◌∙◌, ap, subst, inl, inr}
+use Rattle.wt_grid.specs.Axes.{same_axis, other}
+use Rattle.wt_grid.specs.declared.image.Image.TheVariants.{One as Single, Two as Double}
+use Rattle.wt_grid.specs.declared.image.Image.{Image}
+use Rattle.wt_grid.specs.declared.axis.Side.TheVariants.{After, Before}
+use Rattle.wt_grid.specs.declared.axis.Side.{Side}
+use Rattle.wt_grid.specs.declared.axis.Axis.TheVariants.{One, Two}
+use Rattle.wt_grid.specs.declared.axis.Axis.{Axis}
 use Rattle.std.proofs.lemmas.Bool.Decides.{nat_tests}
 use Rattle.std.proofs.lemmas.Bool.{cases_lt}
 use Rattle.std.proofs.lemmas.Option.{slice_get-map}
-use Rattle.wt_tile.specs.declared.tile.Axis.{Axis}
-use Rattle.wt_tile.specs.declared.tile.Axis.TheVariants.{One, Two}
-use Rattle.wt_tile.specs.declared.tile.Side.{Side}
-use Rattle.wt_tile.specs.declared.tile.Side.TheVariants.{After, Before}
-use Rattle.wt_tile.specs.Matching.{same_axis, other}
 use Rattle.wt_grid.specs.Order.{has, in_order, agree}
 use Rattle.wt_grid.proofs.Order.{both}
-use Rattle.wt_grid.specs.Lines.{Piece, one, two, IsGood}
+use Rattle.wt_grid.specs.Lines.{IsGood}
 use Rattle.wt_grid.specs.Cuts.{flip, table}
 use Rattle.wt_grid.proofs.Law.{unflipped, flipped}
 use Rattle.wt_step.specs.declared.raw.RawStep.{RawStep}
-use Rattle.wt_morphism.specs.declared.image.Image.{Image}
-use Rattle.wt_morphism.specs.declared.image.Image.TheVariants.{One as Single, Two as Double}
 use Rattle.wt_step.specs.Words.{same_image, allowed, allows, is_marker, is_block, joined, demands}
 use Rattle.wt_grid.specs.Pairs.{is_pair, pairs_follow, pair_fits}
 use Rattle.wt_step.specs.Faults.{is_good_image, is_demanded}
 use Rattle.wt_step.specs.Good.{GoodStep}
 use Rattle.wt_morphism.specs.Images.{piece}
-use Rattle.wt_step.specs.Meaning.{pieces, line_side}
+use Rattle.wt_step.specs.Meaning.{pieces}
 use Rattle.wt_step.proofs.Goodness.{agreed, not_true, is_pair_same}
 
 pub same_itself : (axis : Axis) → same_axis axis axis ≡ true
@@ -80,15 +80,15 @@ fits_at n (p ∷ ps) a b o h =
     go false t r f g = r (rw t at h)
 
 -- Images.
-pub from_piece : (o : Option Image) (a : ℕ) → option_map piece o ≡ Some (one a) → o ≡ Some (Single a)
+pub from_piece : (o : Option Image) (a : ℕ) → option_map piece o ≡ Some (Single a) → o ≡ Some (Single a)
 from_piece None a e = absurd cc
-from_piece (Some (Single x)) a e = let f : Some (one x) ≡ Some (one a) = e in cc
+from_piece (Some (Single x)) a e = let f : Some (Single x) ≡ Some (Single a) = e in cc
 from_piece (Some (Double x y)) a e = absurd cc
 
-pub from_pieces : (o : Option Image) (a b : ℕ) → option_map piece o ≡ Some (two a b) → o ≡ Some (Double a b)
+pub from_pieces : (o : Option Image) (a b : ℕ) → option_map piece o ≡ Some (Double a b) → o ≡ Some (Double a b)
 from_pieces None a b e = absurd cc
 from_pieces (Some (Single x)) a b e = absurd cc
-from_pieces (Some (Double x y)) a b e = let f : Some (two x y) ≡ Some (two a b) = e in cc
+from_pieces (Some (Double x y)) a b e = let f : Some (Double x y) ≡ Some (Double a b) = e in cc
 
 same_image_itself : (x : Image) → same_image x x ≡ true
 same_image_itself (Single a) = grind (arith, nat_tests)
@@ -119,10 +119,10 @@ module _ (s : RawStep) (g : GoodStep s) where
       let P : Image → Type 0 = λ y. is_good_image s y ≡ true in
       subst P r.1 (g.images i r.0)
 
-  pub singles : (i a : ℕ) → slice_get (pieces s) i ≡ Some (one a) → is_marker s a ≡ false
+  pub singles : (i a : ℕ) → slice_get (pieces s) i ≡ Some (Single a) → is_marker s a ≡ false
   singles i a e = not_true (is_marker s a) (image_some i (Single a) (from_piece (slice_get s.images i) a (sym (slice_get-map piece s.images i) ∙ e)))
 
-  pub doubles : (i a b : ℕ) → slice_get (pieces s) i ≡ Some (two a b) → joined s.side (is_marker s a) (is_marker s b) ≡ true
+  pub doubles : (i a b : ℕ) → slice_get (pieces s) i ≡ Some (Double a b) → joined s.side (is_marker s a) (is_marker s b) ≡ true
   doubles i a b e = (both (allows s s.axis a b) (is_block s a b) (image_some i (Double a b) (from_pieces (slice_get s.images i) a b (sym (slice_get-map piece s.images i) ∙ e)))).1
 
   once : (i j : ℕ) (x : Image) → slice_get s.images i ≡ Some x → slice_get s.images j ≡ Some x → i < j → ⊥
@@ -142,26 +142,26 @@ module _ (s : RawStep) (g : GoodStep s) where
     ]
   ]
 
-  pub distinct : (i j : ℕ) (p : Piece) → slice_get (pieces s) i ≡ Some p → slice_get (pieces s) j ≡ Some p → i ≡ j
-  distinct i j (one a) e f = one_image i j (Single a) (from_piece (slice_get s.images i) a (sym (slice_get-map piece s.images i) ∙ e)) (from_piece (slice_get s.images j) a (sym (slice_get-map piece s.images j) ∙ f))
-  distinct i j (two a b) e f = one_image i j (Double a b) (from_pieces (slice_get s.images i) a b (sym (slice_get-map piece s.images i) ∙ e)) (from_pieces (slice_get s.images j) a b (sym (slice_get-map piece s.images j) ∙ f))
+  pub distinct : (i j : ℕ) (p : Image) → slice_get (pieces s) i ≡ Some p → slice_get (pieces s) j ≡ Some p → i ≡ j
+  distinct i j (Single a) e f = one_image i j (Single a) (from_piece (slice_get s.images i) a (sym (slice_get-map piece s.images i) ∙ e)) (from_piece (slice_get s.images j) a (sym (slice_get-map piece s.images j) ∙ f))
+  distinct i j (Double a b) e f = one_image i j (Double a b) (from_pieces (slice_get s.images i) a b (sym (slice_get-map piece s.images i) ∙ e)) (from_pieces (slice_get s.images j) a b (sym (slice_get-map piece s.images j) ∙ f))
 
   pub in_range : (axis : Axis) (a b : ℕ) → allows s axis a b ≡ true → (a < length s.fine.tiles) × (b < length s.fine.tiles)
   in_range axis a b h = fits_at (length s.fine.tiles) (allowed s axis) a b (g.shaped.allowed axis) h
 
-  placed : (x : Image) (y : Image) (i : ℕ) (p : Piece) → slice_get s.images i ≡ Some y → y ≡ x → piece x ≡ p → slice_get (pieces s) i ≡ Some p
+  placed : (x : Image) (y : Image) (i : ℕ) (p : Image) → slice_get s.images i ≡ Some y → y ≡ x → piece x ≡ p → slice_get (pieces s) i ≡ Some p
   placed x y i p e f h = slice_get-map piece s.images i ∙ (rw (e, f, h) refl)
 
-  tile_image : (u : ℕ) → u < length s.fine.tiles → is_marker s u ≡ false → has (demands s u) (allowed s s.axis) ≡ true → (i : ℕ) × (slice_get (pieces s) i ≡ Some (one u))
+  tile_image : (u : ℕ) → u < length s.fine.tiles → is_marker s u ≡ false → has (demands s u) (allowed s s.axis) ≡ true → (i : ℕ) × (slice_get (pieces s) i ≡ Some (Single u))
   tile_image u lt m h =
       let d : is_demanded s u ≡ true = rw (m, h) refl in
       let r = has_some (same_image (Single u)) s.images (g.has_tiles u lt d) in
-      (r.0, placed (Single u) r.1 r.0 (one u) r.2 (is_single u r.1 r.3) refl)
+      (r.0, placed (Single u) r.1 r.0 (Single u) r.2 (is_single u r.1 r.3) refl)
 
-  pub pair_image : (a b : ℕ) → allows s s.axis a b ≡ true → joined s.side (is_marker s a) (is_marker s b) ≡ true → (i : ℕ) × (slice_get (pieces s) i ≡ Some (two a b))
+  pub pair_image : (a b : ℕ) → allows s s.axis a b ≡ true → joined s.side (is_marker s a) (is_marker s b) ≡ true → (i : ℕ) × (slice_get (pieces s) i ≡ Some (Double a b))
   pair_image a b h j =
       let r = has_some (same_image (Double a b)) s.images (g.has_pairs a b h j) in
-      (r.0, placed (Double a b) r.1 r.0 (two a b) r.2 (is_double a b r.1 r.3) refl)
+      (r.0, placed (Double a b) r.1 r.0 (Double a b) r.2 (is_double a b r.1 r.3) refl)
 
   -- the pair makes its first tile an image (after), or its second (before)
   demand_first : (a b : ℕ) → s.side ≡ After → allows s s.axis a b ≡ true → is_marker s b ≡ false → has (demands s a) (allowed s s.axis) ≡ true
@@ -187,7 +187,7 @@ module _ (s : RawStep) (g : GoodStep s) where
   joined_before true false e = (refl, refl)
   joined_before false n e = absurd (cc e)
 
-  table_of : (side : Side) → s.side ≡ side → IsGood (table (line_side side) (allows s s.axis) (allows s (other s.axis)) (is_marker s) (pieces s))
+  table_of : (side : Side) → s.side ≡ side → IsGood (table side (allows s s.axis) (allows s (other s.axis)) (is_marker s) (pieces s))
   table_of After e = record {
     apart = apart;
     uniform = uniform;
@@ -207,10 +207,10 @@ module _ (s : RawStep) (g : GoodStep s) where
     has_twos = λ a b h m n. let r = pair_image b a h (subst (λ (x : Side). joined x (is_marker s b) (is_marker s a) ≡ true) (sym e) (rw (n, m) refl)) in (r.0, (flipped (pieces s)).twos r.0 b a r.1);
   }
     where
-      flip_distinct : (p : Piece) (i j : ℕ) → slice_get (map flip (pieces s)) i ≡ Some p → slice_get (map flip (pieces s)) j ≡ Some p → i ≡ j
-      flip_distinct (one a) i j h k = distinct i j (one a) ((unflipped (pieces s)).ones i a h) ((unflipped (pieces s)).ones j a k)
-      flip_distinct (two a b) i j h k = distinct i j (two b a) ((unflipped (pieces s)).twos i a b h) ((unflipped (pieces s)).twos j a b k)
+      flip_distinct : (p : Image) (i j : ℕ) → slice_get (map flip (pieces s)) i ≡ Some p → slice_get (map flip (pieces s)) j ≡ Some p → i ≡ j
+      flip_distinct (Single a) i j h k = distinct i j (Single a) ((unflipped (pieces s)).ones i a h) ((unflipped (pieces s)).ones j a k)
+      flip_distinct (Double a b) i j h k = distinct i j (Double b a) ((unflipped (pieces s)).twos i a b h) ((unflipped (pieces s)).twos j a b k)
 
   -- a good step allows a good table
-  pub good_table : IsGood (table (line_side s.side) (allows s s.axis) (allows s (other s.axis)) (is_marker s) (pieces s))
+  pub good_table : IsGood (table s.side (allows s s.axis) (allows s (other s.axis)) (is_marker s) (pieces s))
   good_table = table_of s.side refl

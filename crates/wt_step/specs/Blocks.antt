@@ -1,19 +1,18 @@
 -- How a pattern is read: blocks of one or two lines, and the coarse tile of each.
 use Rattle.std.specs.Prelude.{ℕ, zero, suc, ◌+◌, ◌*◌, ◌/◌, ◌%◌, ◌<◌, ◌≡◌, Bool, true, false, ◌&&◌, nat_lt, List, [], ◌∷◌, length, slice_get, slice_index, slice_index_or, slice_set, Some, if◌then◌else◌}
-use Rattle.wt_tile.specs.declared.tile.Axis.{Axis}
-use Rattle.wt_tile.specs.declared.tile.Axis.TheVariants.{One, Two}
-use Rattle.wt_tile.specs.Matching.{grid_axis}
+use Rattle.wt_grid.specs.declared.image.Image.TheVariants.{One as Single, Two as Double}
+use Rattle.wt_grid.specs.declared.image.Image.{Image}
+use Rattle.wt_grid.specs.declared.axis.Axis.TheVariants.{One, Two}
+use Rattle.wt_grid.specs.declared.axis.Axis.{Axis}
 use Rattle.wt_grid.specs.Grid.{Grid, along, across, at, grid_of}
 use Rattle.wt_step.specs.declared.raw.RawStep.{RawStep}
 use Rattle.wt_step.specs.declared.raw.RawRestrict.{RawRestrict}
 use Rattle.wt_step.specs.declared.blocks.Block.{Block}
-use Rattle.wt_morphism.specs.declared.image.Image.{Image}
-use Rattle.wt_morphism.specs.declared.image.Image.TheVariants.{One as Single, Two as Double}
 use Rattle.wt_step.specs.Words.{is_marker, joined, ends_block}
 
 -- cell j of line i, or 0 outside
 abbrev pub cell_at : Grid → Axis → ℕ → ℕ → ℕ
-cell_at p axis i j = if nat_lt i (along (grid_axis axis) p) && nat_lt j (across (grid_axis axis) p) then at (grid_axis axis) p i j else 0
+cell_at p axis i j = if nat_lt i (along axis p) && nat_lt j (across axis p) then at axis p i j else 0
 
 -- cell j of line i of the core
 abbrev pub core_at : RawStep → Grid → ℕ → ℕ → ℕ

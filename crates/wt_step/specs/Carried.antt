@@ -1,8 +1,7 @@
 -- What a step makes of a period: its part along the step's axis is counted in blocks.
 use Rattle.std.specs.Prelude.{◌≡◌, ℕ, suc, ◌+◌, ◌≤◌, ℤ, pos, negsuc, neg_ℤ, Bool, false, ◌&&◌, nat_le, length, take, drop}
-use Rattle.wt_tile.specs.declared.tile.Axis.{Axis}
-use Rattle.wt_tile.specs.declared.tile.Axis.TheVariants.{One, Two}
-use Rattle.wt_tile.specs.Matching.{grid_axis}
+use Rattle.wt_grid.specs.declared.axis.Axis.TheVariants.{One, Two}
+use Rattle.wt_grid.specs.declared.axis.Axis.{Axis}
 use Rattle.wt_grid.specs.Grid.{Grid, along, lines}
 use Rattle.wt_grid.specs.Parts.{core}
 use Rattle.wt_grid.specs.Shifts.{HasVector}
@@ -15,13 +14,13 @@ use Rattle.wt_step.specs.Blocks.{pairs_at, blocks_in, one_if, ends_at}
 
 -- how many lines the first n lines of the coarse rectangle q stand for
 abbrev pub lines_below : RawStep → Grid → ℕ → ℕ
-lines_below s q n = length (image_lines (pieces s) (take n (lines (grid_axis s.axis) q)))
+lines_below s q n = length (image_lines (pieces s) (take n (lines s.axis q)))
 
 -- A period of d lines along the step's axis and e cells across it has become one of n coarse lines and e cells on the coarse rectangle q: n coarse lines stand for d lines, wherever they begin.
 pub record IsCarried (s : RawStep) (opposed : Bool) (d e n : ℕ) (q : Grid) : Type 0 where
-  pub vector : HasVector (grid_axis s.axis) opposed n e q
-  pub few : n ≤ along (grid_axis s.axis) q
-  pub filled : (k : ℕ) → k + n ≤ along (grid_axis s.axis) q → length (image_lines (pieces s) (take n (drop k (lines (grid_axis s.axis) q)))) ≡ d
+  pub vector : HasVector s.axis opposed n e q
+  pub few : n ≤ along s.axis q
+  pub filled : (k : ℕ) → k + n ≤ along s.axis q → length (image_lines (pieces s) (take n (drop k (lines s.axis q)))) ≡ d
   -- no longer than before, and at least half as long: so none exactly where there was none
   pub shorter : n ≤ d
   pub half : d ≤ n + n
@@ -50,9 +49,9 @@ has_room (Restrict s) p dx dy = nat_le (magnitude dx + 1) (core s.radius p).widt
 
 -- the first n lines of the coarse rectangle q stand for d lines, and those of no other number do
 pub record IsCount (s : RawStep) (q : Grid) (d n : ℕ) : Type 0 where
-  pub inside : n ≤ along (grid_axis s.axis) q
+  pub inside : n ≤ along s.axis q
   pub filled : lines_below s q n ≡ d
-  pub only : (m : ℕ) → m ≤ along (grid_axis s.axis) q → lines_below s q m ≡ d → m ≡ n
+  pub only : (m : ℕ) → m ≤ along s.axis q → lines_below s q m ≡ d → m ≡ n
 
 -- e is the component d, counted in lines of the coarse rectangle q, with the same sign
 abbrev pub IsCounted : RawStep → Grid → ℤ → ℤ → Type 0

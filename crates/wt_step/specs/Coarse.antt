@@ -1,6 +1,5 @@
 -- What desubstitution answers for a step of either kind.
 use Rattle.std.specs.Prelude.{ℕ, ◌-◌, List, [], ◌∷◌, Bool, true, false, ◌&&◌, not, nat_le, Option, Some, option_map, if◌then◌else◌, None}
-use Rattle.wt_tile.specs.Matching.{grid_axis}
 use Rattle.wt_grid.specs.First.{or_else}
 use Rattle.wt_grid.specs.Grid.{Grid, along, across, at, listed}
 use Rattle.wt_grid.specs.Parts.{core}
@@ -21,12 +20,12 @@ IsCoarseOf (Restrict s) p q = IsKept s p q
 
 -- the core is as large as the law of desubstitution asks
 abbrev pub has_margin : RawLink → Grid → Bool
-has_margin (Marker s) p = nat_le 3 (along (grid_axis s.axis) (core s.radius p)) && nat_le 1 (across (grid_axis s.axis) (core s.radius p))
+has_margin (Marker s) p = nat_le 3 (along s.axis (core s.radius p)) && nat_le 1 (across s.axis (core s.radius p))
 has_margin (Restrict s) p = nat_le 1 (core s.radius p).width && nat_le 1 (core s.radius p).height
 
 -- whether line i of the core is a line of markers, by its first cell
 abbrev pub is_marked : RawStep → Grid → ℕ → Bool
-is_marked s p i = is_marker s (at (grid_axis s.axis) (core s.radius p) i 0)
+is_marked s p i = is_marker s (at s.axis (core s.radius p) i 0)
 
 -- whether the first line of the core is cut
 abbrev pub cuts_low : RawLink → Grid → Bool
@@ -35,12 +34,12 @@ cuts_low (Restrict s) p = false
 
 -- whether the last line of the core is cut: it begins a block
 abbrev pub cuts_high : RawLink → Grid → Bool
-cuts_high (Marker s) p = not (ends_block s.side (is_marked s p (along (grid_axis s.axis) (core s.radius p) - 1)))
+cuts_high (Marker s) p = not (ends_block s.side (is_marked s p (along s.axis (core s.radius p) - 1)))
 cuts_high (Restrict s) p = false
 
 -- line i of the core
 abbrev pub core_line : RawStep → Grid → ℕ → List ℕ
-core_line s p i = listed (across (grid_axis s.axis) (core s.radius p)) (λ j. at (grid_axis s.axis) (core s.radius p) i j)
+core_line s p i = listed (across s.axis (core s.radius p)) (λ j. at s.axis (core s.radius p) i j)
 
 -- a line, where it is cut
 abbrev pub cut_line : Bool → List ℕ → List (List ℕ)

@@ -1,6 +1,7 @@
 -- Good steps.
 use Rattle.std.specs.Prelude.{ℕ, ◌≡◌, ◌<◌, length, take, slice_get, None, Some, true, false}
-use Rattle.wt_tile.specs.declared.tile.Axis.{Axis}
+use Rattle.wt_grid.specs.declared.image.Image.TheVariants.{One as Single, Two as Double}
+use Rattle.wt_grid.specs.declared.axis.Axis.{Axis}
 use Rattle.wt_tile.specs.Matching.{matches}
 use Rattle.wt_grid.specs.Order.{has}
 use Rattle.wt_step.specs.declared.raw.RawStep.{RawStep}
@@ -8,7 +9,6 @@ use Rattle.wt_step.specs.declared.raw.RawRestrict.{RawRestrict}
 use Rattle.wt_step.specs.declared.raw.Lost.{Lost}
 use Rattle.wt_refute.specs.Refutes.{tile_tree_fault}
 use Rattle.wt_step.specs.Restrict.{IsSorted, kept_match}
-use Rattle.wt_morphism.specs.declared.image.Image.TheVariants.{One as Single, Two as Double}
 use Rattle.wt_step.specs.Words.{same_image, allows, is_barred, is_block, image_at, images_match}
 use Rattle.wt_step.specs.Faults.{IsShaped, is_named_well, trees_fault, is_marked_well, is_good_image, is_demanded}
 

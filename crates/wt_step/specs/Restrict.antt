@@ -1,7 +1,7 @@
 -- Restrict steps: some tiles are kept, and the others stand in no core of the radius.
 use Rattle.std.specs.Prelude.{ℕ, ◌≡◌, ◌<◌, ◌≤◌, true, length, slice_index, Option, None, Bool, ◌&&◌, not, nat_eq, nat_lt, nat_le, option_map}
-use Rattle.wt_tile.specs.declared.tile.Axis.{Axis}
-use Rattle.wt_tile.specs.declared.tile.Axis.TheVariants.{One, Two}
+use Rattle.wt_grid.specs.declared.axis.Axis.TheVariants.{One, Two}
+use Rattle.wt_grid.specs.declared.axis.Axis.{Axis}
 use Rattle.wt_tile.specs.Sets.{set_fault}
 use Rattle.wt_tile.specs.Matching.{matches}
 use Rattle.wt_refute.specs.Refutes.{tile_tree_fault}

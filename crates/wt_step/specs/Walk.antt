@@ -1,6 +1,6 @@
 -- Where the sorted lists of a step stand at a pair of tiles.
 use Rattle.std.specs.Prelude.{ℕ, suc, ◌≡◌, ◌≤◌, List, [], ◌∷◌, Bool, if◌then◌else◌, slice_index}
-use Rattle.wt_tile.specs.declared.tile.Axis.{Axis}
+use Rattle.wt_grid.specs.declared.axis.Axis.{Axis}
 use Rattle.wt_grid.specs.Pairs.{pair_before}
 use Rattle.wt_refute.specs.Entries.{entry_before}
 use Rattle.wt_step.specs.declared.raw.RawStep.{RawStep}

@@ -1,15 +1,17 @@
 -- The words in which the conditions on a step are said.
 use Rattle.std.specs.Prelude.{ℕ, ◌+◌, List, slice_index_or, Option, Bool, false, ◌&&◌, not, nat_eq, nat_lt, nat_le, if◌then◌else◌}
+use Rattle.wt_grid.specs.Axes.{same_axis}
+use Rattle.wt_grid.specs.Images.{first_tile, last_tile}
+use Rattle.wt_grid.specs.declared.image.Image.TheVariants.{One as Single, Two as Double}
+use Rattle.wt_grid.specs.declared.image.Image.{Image}
+use Rattle.wt_grid.specs.declared.axis.Side.TheVariants.{After, Before}
+use Rattle.wt_grid.specs.declared.axis.Side.{Side}
+use Rattle.wt_grid.specs.declared.axis.Axis.TheVariants.{One, Two}
+use Rattle.wt_grid.specs.declared.axis.Axis.{Axis}
 use Rattle.wt_tile.specs.declared.tile.Tile.{Tile}
-use Rattle.wt_tile.specs.declared.tile.Axis.{Axis}
-use Rattle.wt_tile.specs.declared.tile.Axis.TheVariants.{One, Two}
-use Rattle.wt_tile.specs.declared.tile.Side.{Side}
-use Rattle.wt_tile.specs.declared.tile.Side.TheVariants.{After, Before}
-use Rattle.wt_tile.specs.Matching.{matches, same_axis}
+use Rattle.wt_tile.specs.Matching.{matches}
 use Rattle.wt_refute.specs.declared.tree.Refuted.{Refuted}
 use Rattle.wt_step.specs.declared.raw.RawStep.{RawStep}
-use Rattle.wt_morphism.specs.declared.image.Image.{Image}
-use Rattle.wt_morphism.specs.declared.image.Image.TheVariants.{One as Single, Two as Double}
 use Rattle.wt_refute.specs.Entries.{is_entry}
 use Rattle.wt_grid.specs.Pairs.{is_pair}
 use Rattle.wt_grid.specs.Order.{has, find}
@@ -31,14 +33,6 @@ same_image (Single a) (Single b) = nat_eq a b
 same_image (Single a) (Double c d) = false
 same_image (Double a b) (Single c) = false
 same_image (Double a b) (Double c d) = nat_eq a c && nat_eq b d
-
-abbrev pub first_tile : Image → ℕ
-first_tile (Single a) = a
-first_tile (Double a b) = a
-
-abbrev pub last_tile : Image → ℕ
-last_tile (Single a) = a
-last_tile (Double a b) = b
 
 -- images of one length match piece by piece
 abbrev pub pieces_match : List Tile → Axis → Image → Image → Bool

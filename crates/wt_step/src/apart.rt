@@ -1,6 +1,5 @@
 // A pattern taken apart by a good marker step.
 ghost use Rattle.std.specs.Prelude.{◌≡◌, ◌≤◌, ◌<◌, ◌-◌, ◌+◌, not, false, length, IfOk};
-ghost use Rattle.wt_tile.specs.Matching.{grid_axis};
 ghost use Rattle.wt_grid.specs.Grid.{along, across};
 ghost use Rattle.wt_grid.specs.Parts.{core};
 ghost use Rattle.wt_pattern.specs.Patterns.{IsPattern};
@@ -22,7 +21,7 @@ use wt_tile::{Axis, Side};
 
 /// The lines of a core along an axis.
 pub fn core_lines(p: &Pattern, axis: Axis, radius: u8) -> usize
-    ensures value { result ≡ along (grid_axis axis) (core radius p.now) }
+    ensures value { result ≡ along axis (core radius p.now) }
     ensures shape { IsShape p.now }
     ensures small { result ≤ 4096 }
 {
@@ -32,7 +31,7 @@ pub fn core_lines(p: &Pattern, axis: Axis, radius: u8) -> usize
 
 /// The cells of a line of a core.
 pub fn core_across(p: &Pattern, axis: Axis, radius: u8) -> usize
-    ensures value { result ≡ across (grid_axis axis) (core radius p.now) }
+    ensures value { result ≡ across axis (core radius p.now) }
     ensures small { result ≤ 4096 }
 {
     let border = usize::from(radius) + usize::from(radius);
@@ -72,11 +71,11 @@ fn core_blocks(
     low: bool,
     high: bool,
 ) -> Result<Vec<Block>, AllocError>
-    requires { 3 ≤ along (grid_axis raw.now.axis) (core raw.now.radius p.now) }
+    requires { 3 ≤ along raw.now.axis (core raw.now.radius p.now) }
     ensures some { IfOk result (λ blocks. 1 ≤ length blocks.items) }
     ensures few { IfOk result (λ blocks. length blocks.items ≤ 4096) }
     ensures value { IfOk result (λ blocks. blocks.items ≡ blocks_in (pairs_at raw.now p.now) false (block_words.one_if low)
-        (along (grid_axis raw.now.axis) (core raw.now.radius p.now) - (block_words.one_if low + block_words.one_if high))) }
+        (along raw.now.axis (core raw.now.radius p.now) - (block_words.one_if low + block_words.one_if high))) }
 {
     let lines = core_lines(p, raw.axis, raw.radius) as u16;
     find_blocks(alloc, raw, p, one_if(low), lines - one_if(high))
@@ -127,12 +126,12 @@ fn coarse_pattern(
 pub fn take_apart(alloc: Global, raw: &RawStep, p: &Pattern) -> Result<Coarse, AllocError>
     requires good { GoodStep raw.now }
     requires pattern { IsPattern raw.now.fine.tiles p.now }
-    requires long { 3 ≤ along (grid_axis raw.now.axis) (core raw.now.radius p.now) }
-    requires wide { 1 ≤ across (grid_axis raw.now.axis) (core raw.now.radius p.now) }
+    requires long { 3 ≤ along raw.now.axis (core raw.now.radius p.now) }
+    requires wide { 1 ≤ across raw.now.axis (core raw.now.radius p.now) }
     ensures coarse { IfOk result (λ c. IsCoarse raw.now p.now c.pattern) }
     ensures valid { IfOk result (λ c. IsPattern raw.now.coarse.tiles c.pattern) }
     ensures low_cut { IfOk result (λ c. c.low_cut ≡ words.ends_block raw.now.side (is_marked raw.now p.now 0)) }
-    ensures high_cut { IfOk result (λ c. c.high_cut ≡ not (words.ends_block raw.now.side (is_marked raw.now p.now (along (grid_axis raw.now.axis) (core raw.now.radius p.now) - 1)))) }
+    ensures high_cut { IfOk result (λ c. c.high_cut ≡ not (words.ends_block raw.now.side (is_marked raw.now p.now (along raw.now.axis (core raw.now.radius p.now) - 1)))) }
 {
     let low_cut = ends_at(raw, p, 0);
     let high_cut = !ends_at(raw, p, core_lines(p, raw.axis, raw.radius) - 1);

@@ -1,6 +1,5 @@
 // The blocks of a pattern's core: one or two lines that stand for one coarse line.
 ghost use Rattle.std.specs.Prelude.{◌≡◌, ◌≤◌, ◌<◌, ◌-◌, ◌&&◌, nat_lt, false, length, IfOk};
-ghost use Rattle.wt_tile.specs.Matching.{grid_axis};
 ghost use Rattle.wt_grid.specs.Grid.{along, across};
 ghost use Rattle.wt_pattern.specs.Shape.{IsShape};
 ghost use Rattle.wt_step.specs.Blocks.{blocks_in};
@@ -21,7 +20,7 @@ pub struct Block {
 
 /// The lines of a pattern along an axis.
 pub fn count_lines(p: &Pattern, axis: Axis) -> usize
-    ensures value { result ≡ along (grid_axis axis) p.now }
+    ensures value { result ≡ along axis p.now }
     ensures shape { IsShape p.now }
     ensures some { 1 ≤ result }
     ensures small { result ≤ 4096 }
@@ -34,7 +33,7 @@ pub fn count_lines(p: &Pattern, axis: Axis) -> usize
 
 /// The cells of a line along an axis.
 pub fn count_across(p: &Pattern, axis: Axis) -> usize
-    ensures value { result ≡ across (grid_axis axis) p.now }
+    ensures value { result ≡ across axis p.now }
     ensures some { 1 ≤ result }
     ensures small { result ≤ 4096 }
 {

@@ -1,6 +1,5 @@
 // What a good step makes of a period.
 ghost use Rattle.std.specs.Prelude.{◌≡◌, ◌+◌, ◌≤◌, ◌↔◌, pos, true, nat_le};
-ghost use Rattle.wt_tile.specs.Matching.{grid_axis};
 ghost use Rattle.wt_grid.specs.Grid.{Grid, IsGrid, along};
 ghost use Rattle.wt_grid.specs.Parts.{core};
 ghost use Rattle.wt_pattern.specs.Patterns.{IsPattern};
@@ -56,7 +55,7 @@ pub fn has_room(link: LinkRef<'_>, p: &Pattern, dx: i64, dy: i64) -> bool
 
 /// The length of a component as a number of lines of a pattern, which has no fewer.
 fn lines_of(p: &Pattern, axis: Axis, d: i64) -> u16
-    requires { magnitude d ≤ along (grid_axis axis) p.now }
+    requires { magnitude d ≤ along axis p.now }
     ensures value { result ≡ magnitude d }
     ensures few { result ≤ 4096 }
 {
@@ -74,7 +73,7 @@ fn blocks_begun(raw: &RawStep, p: &Pattern, lines: u16) -> u16
 
 /// A component along the step's axis, counted in blocks.
 fn in_blocks(raw: &RawStep, p: &Pattern, d: i64) -> i64
-    requires { magnitude d ≤ along (grid_axis raw.now.axis) p.now }
+    requires { magnitude d ≤ along raw.now.axis p.now }
     ensures { result ≡ spec.in_blocks raw.now p.now d }
 {
     let blocks = i64::from(blocks_begun(raw, p, lines_of(p, raw.axis, d)));

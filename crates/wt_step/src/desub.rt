@@ -1,6 +1,5 @@
 // Desubstitution by a good step of either kind.
 ghost use Rattle.std.specs.Prelude.{◌≡◌, ◌≤◌, ◌⊎◌, ◌&&◌, nat_le, length, None, Some, true, IfOk, IfErr, IsErrOf};
-ghost use Rattle.wt_tile.specs.Matching.{grid_axis};
 ghost use Rattle.wt_grid.specs.Grid.{along, across};
 ghost use Rattle.wt_grid.specs.Parts.{core};
 ghost use Rattle.wt_pattern.specs.Patterns.{IsPattern};
@@ -20,7 +19,7 @@ use wt_tile::Axis;
 
 fn marker_margin(raw: &RawStep, p: &Pattern) -> bool
     ensures shape { IsShape p.now }
-    ensures value { result ≡ (nat_le 3 (along (grid_axis raw.now.axis) (core raw.now.radius p.now)) && nat_le 1 (across (grid_axis raw.now.axis) (core raw.now.radius p.now))) }
+    ensures value { result ≡ (nat_le 3 (along raw.now.axis (core raw.now.radius p.now)) && nat_le 1 (across raw.now.axis (core raw.now.radius p.now))) }
 {
     core_lines(p, raw.axis, raw.radius) >= 3 && core_across(p, raw.axis, raw.radius) >= 1
 }

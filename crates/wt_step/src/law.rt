@@ -3,7 +3,6 @@ ghost use Rattle.std.specs.Prelude.{◌≡◌, ◌+◌, ◌-◌, ◌<◌, ◌≤
 ghost use Rattle.wt_grid.specs.Grid.{Grid, IsGrid, cell};
 ghost use Rattle.wt_grid.specs.Parts.{core, IsValid};
 ghost use Rattle.wt_grid.specs.Shifts.{HasVector};
-ghost use Rattle.wt_tile.specs.Matching.{grid_axis};
 ghost use Rattle.wt_pattern.specs.Patterns.{IsPattern};
 ghost use Rattle.wt_step.specs.declared.raw.RawStep.{RawStep};
 ghost use Rattle.wt_step.specs.declared.raw.RawRestrict.{RawRestrict};
@@ -64,7 +63,7 @@ pub fn cuts_are_the_border_lines()
 pub fn periods_are_carried()
     ensures { (s : RawStep) → faults.step_fault s ≡ None → (p q : Grid) → IsPattern s.fine.tiles p → IsGrid q → IsCoarse s p q
         → (opposed : Bool) (d e : ℕ) → d + 3 ≤ core_length s p → e < core_width s p
-        → HasVector (grid_axis s.axis) opposed d e p → (n : ℕ) × IsCarried s opposed d e n q }
+        → HasVector s.axis opposed d e p → (n : ℕ) × IsCarried s opposed d e n q }
 {}
 
 /// The core of each valid pattern is, for a restrict step, the image of exactly one coarse pattern,

@@ -1,5 +1,7 @@
 -- A list without a fault is a tile set, and a tile set has no fault.
 use Rattle.std.proofs.Common.{arith, ◌≡◌, ◌⊎◌, ℕ, zero, suc, ◌+◌, ◌-◌, max, ◌<◌, ◌≤◌, List, [], ◌∷◌, ◌++◌, length, length-append, take, Contains, Option, None, Some, is_some, unwrap_or, slice_get, get_or, Bool, true, false, not, ◌&&◌, ◌||◌, nat_le, nat_lt, nat_eq, if◌then◌else◌, ◌↔◌, refl, sym, ap, ◌∙◌, inl, inr, subst, append_assoc}
+use Rattle.wt_grid.specs.declared.axis.Axis.TheVariants.{One, Two}
+use Rattle.wt_grid.specs.declared.axis.Axis.{Axis}
 use Rattle.std.specs.Str.{bytes_eq}
 use Rattle.std.proofs.lemmas.Bool.{cases_lt}
 use Rattle.std.proofs.lemmas.Bool.Decides.{nat_tests}
@@ -9,8 +11,6 @@ use Rattle.wt_tile.specs.declared.tile.Tile.{Tile}
 use Rattle.wt_tile.specs.declared.tile.TileList.{TileList}
 use Rattle.wt_tile.specs.declared.tile.SetFault.{SetFault}
 use Rattle.wt_tile.specs.declared.tile.SetFault.TheVariants.{Empty, TooMany, NoColour, Names, Repeated}
-use Rattle.wt_tile.specs.declared.tile.Axis.{Axis}
-use Rattle.wt_tile.specs.declared.tile.Axis.TheVariants.{One, Two}
 use Rattle.wt_tile.specs.Matching.{ahead, behind}
 use Rattle.std.proofs.lemmas.Slice.Eq.{bytes_eq-Decides}
 use Rattle.wt_tile.specs.Sets.{edges, names, IsNumbered, AllApart, IsTileSet, comes_in_order, come, colour_fault, colours, east_west, north_south, is_among, apart, same_tile, place_of, match_place, repeated, set_fault}

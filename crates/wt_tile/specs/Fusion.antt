@@ -1,7 +1,7 @@
 -- The fusion of two neighbouring tiles.
 use Rattle.wt_tile.specs.declared.tile.Tile.{Tile}
-use Rattle.wt_tile.specs.declared.tile.Axis.{Axis}
-use Rattle.wt_tile.specs.declared.tile.Axis.TheVariants.{One, Two}
+use Rattle.wt_grid.specs.declared.axis.Axis.TheVariants.{One, Two}
+use Rattle.wt_grid.specs.declared.axis.Axis.{Axis}
 use Rattle.wt_tile.specs.declared.fusion.Fused.{Fused}
 use Rattle.wt_tile.specs.declared.fusion.Edge.{Edge}
 use Rattle.wt_tile.specs.declared.fusion.Edge.TheVariants.{One as single, Two as pair}

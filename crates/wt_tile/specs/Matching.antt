@@ -1,9 +1,8 @@
 -- Whether tiles match, as numbers of a list.
 use Rattle.std.specs.Prelude.{ℕ, Bool, true, false, nat_eq, List, slice_index_or}
+use Rattle.wt_grid.specs.declared.axis.Axis.TheVariants.{One, Two}
+use Rattle.wt_grid.specs.declared.axis.Axis.{Axis}
 use Rattle.wt_tile.specs.declared.tile.Tile.{Tile}
-use Rattle.wt_tile.specs.declared.tile.Axis.{Axis}
-use Rattle.wt_tile.specs.declared.tile.Axis.TheVariants.{One, Two}
-use Rattle.wt_grid.specs.Grid.{Axis as GridAxis, one as first_axis, two as second_axis}
 
 -- the colour of the edge that a tile shows the next tile along the axis
 abbrev pub ahead : Axis → Tile → ℕ
@@ -30,26 +29,4 @@ tile_at ts a = slice_index_or ts a blank
 unfoldable pub matches : List Tile → Axis → ℕ → ℕ → Bool
 matches ts axis a b = fits axis (tile_at ts a) (tile_at ts b)
 
-abbrev pub other : Axis → Axis
-other One = Two
-other Two = One
-
-abbrev pub same_axis : Axis → Axis → Bool
-same_axis One One = true
-same_axis One Two = false
-same_axis Two One = false
-same_axis Two Two = true
-
 -- The axes of rectangles, as those of tiles.
-
-abbrev pub grid_axis : Axis → GridAxis
-grid_axis One = first_axis
-grid_axis Two = second_axis
-
-abbrev pub tile_axis : GridAxis → Axis
-tile_axis first_axis = One
-tile_axis second_axis = Two
-
--- how the tiles of a list match along the axes of a rectangle
-abbrev pub matching : List Tile → GridAxis → ℕ → ℕ → Bool
-matching ts axis = matches ts (tile_axis axis)

@@ -19,4 +19,5 @@ pub use laws::{numbers_tell_edges, tile_sets};
 pub use matching::{ahead, behind, is_match, same_axis, tile_at};
 pub use name::Name;
 pub use set::{SetRef, TileSet, set_fault};
-pub use tile::{Axis, SetFault, Side, Tile, TileList};
+pub use tile::{SetFault, Tile, TileList};
+pub use wt_grid::{Axis, Side};

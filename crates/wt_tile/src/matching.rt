@@ -1,5 +1,6 @@
 // Whether tiles match along an axis, for any numbers.
 ghost use Rattle.std.specs.Prelude.{◌≡◌};
+ghost use Rattle.wt_grid.specs.Axes.{same_axis};
 ghost use Rattle.wt_tile.specs.Matching.{matches};
 ghost use Rattle.wt_tile.specs.Matching as spec;
 
@@ -52,7 +53,7 @@ pub fn is_match(tiles: &[Tile], axis: Axis, a: u16, b: u16) -> bool
 
 /// Whether the axes are the same.
 pub fn same_axis(a: Axis, b: Axis) -> bool
-    ensures { result ≡ spec.same_axis a b }
+    ensures { result ≡ same_axis a b }
 {
     match (a, b) {
         (Axis::One, Axis::One) => true,

@@ -3,21 +3,8 @@ ghost use Rattle.std.specs.Prelude.{◌≡◌, IfOk};
 
 use crate::Name;
 use std::alloc::{AllocError, Global};
+use wt_grid::Axis;
 use wt_seq::Seq;
-
-/// The axis along which tiles are neighbours: axis 1 runs to the right, axis 2 upwards.
-#[derive(Clone, Copy, Debug, PartialEq, Eq)]
-pub enum Axis {
-    One,
-    Two,
-}
-
-/// On which side of a tile the marker stands that is joined to it.
-#[derive(Clone, Copy, Debug, PartialEq, Eq)]
-pub enum Side {
-    After,
-    Before,
-}
 
 /// A Wang tile: a unit square with a colour on each edge. East and west colours belong to axis 1,
 /// north and south colours to axis 2, and the two are separate.

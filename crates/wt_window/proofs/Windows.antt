@@ -1,13 +1,13 @@
 -- Fillings of all cells of a window are the valid windows of its pair.
 use Rattle.std.proofs.Common.{arith, ◌≡◌, ◌↔◌, ℕ, suc, ◌+◌, ◌*◌, ◌/◌, ◌%◌, ◌<◌, ◌≤◌, List, [], ◌∷◌, length, get_or, refl, sym, ◌∙◌, inl, inr, subst}
+use Rattle.wt_tile.specs.Matching.{matches}
+use Rattle.wt_grid.specs.declared.axis.Axis.TheVariants.{One, Two}
+use Rattle.wt_grid.specs.declared.axis.Axis.{Axis}
 use Rattle.std.proofs.lemmas.Bool.{cases_lt}
 use Rattle.std.proofs.lemmas.Nat.{mul-add-lt, div-add-mod'}
 use Rattle.std.proofs.Math.Nat.{mod-lt, mul-le-mul_left}
 use Rattle.wt_tile.specs.declared.tile.Tile.{Tile}
-use Rattle.wt_tile.specs.declared.tile.Axis.{Axis}
-use Rattle.wt_tile.specs.declared.tile.Axis.TheVariants.{One, Two}
-use Rattle.wt_tile.specs.Matching.{matching, grid_axis}
-use Rattle.wt_grid.specs.Grid.{Grid, IsGrid, one as first_axis, two as second_axis}
+use Rattle.wt_grid.specs.Grid.{Grid, IsGrid}
 use Rattle.wt_grid.specs.Parts.{AllBelow, IsValid, IsWindow}
 use Rattle.wt_pattern.specs.Windows.{IsEmptyWindow}
 use Rattle.wt_window.specs.Trials.{Window, IsFilling, window, cells, fillings}
@@ -21,7 +21,7 @@ below_at : (n : ℕ) (g : Grid) (k x y : ℕ) → AllBelow n g → x < g.width �
 below_at n g k x y b lx lk e = rw e (b x y lx (row_below g.width g.height x y (omega (arith, e, lk))))
 
 -- The rectangle's cells fill a window of its sides, where they are valid and the pair stands in its cells.
-filled : (ts : List Tile) (w : Window) (g : Grid) → 1 ≤ g.width → g.width ≡ w.width → g.height ≡ w.height → length g.cells ≡ g.width * g.height → AllBelow (length ts) g → IsValid (matching ts) g
+filled : (ts : List Tile) (w : Window) (g : Grid) → 1 ≤ g.width → g.width ≡ w.width → g.height ≡ w.height → length g.cells ≡ g.width * g.height → AllBelow (length ts) g → IsValid (matches ts) g
     → get_or g.cells w.first 0 ≡ w.a → get_or g.cells w.second 0 ≡ w.b → IsFilling ts w (cells w) g.cells
 filled ts w g wide ew eh size b v first second = record {
   size = size ∙ rw (ew, eh) refl;
@@ -31,11 +31,11 @@ filled ts w g wide ew eh size b v first second = record {
   right = λ x y lx lk.
       let l : y * g.width + suc x < g.width * g.height = rw (ew, eh) lk in
       let m : suc x < g.width = rw ew lx in
-      rw (sym ew) (v first_axis x y m (row_below g.width g.height (suc x) y l));
+      rw (sym ew) (v One x y m (row_below g.width g.height (suc x) y l));
   above = λ x y lx lk.
       let l : suc y * g.width + x < g.width * g.height = rw (ew, eh) lk in
       let m : x < g.width = rw ew lx in
-      rw (sym ew) (v second_axis y x (row_below g.width g.height x (suc y) l) m);
+      rw (sym ew) (v Two y x (row_below g.width g.height x (suc y) l) m);
   first = λ lk. first;
   second = λ lk. second;
 }
@@ -48,12 +48,12 @@ tiles_below ts w g ew eh p x y lx ly =
     let my : y < w.height = rw (sym eh) ly in
     rw ew (p.tiles (y * w.width + x) (mul-add-lt y w.width x w.height my mx))
 
-neighbours : (ts : List Tile) (w : Window) (g : Grid) → g.width ≡ w.width → g.height ≡ w.height → IsFilling ts w (cells w) g.cells → IsValid (matching ts) g
-neighbours ts w g ew eh p first_axis x y lx ly =
+neighbours : (ts : List Tile) (w : Window) (g : Grid) → g.width ≡ w.width → g.height ≡ w.height → IsFilling ts w (cells w) g.cells → IsValid (matches ts) g
+neighbours ts w g ew eh p One x y lx ly =
     let mx : suc x < w.width = rw (sym ew) lx in
     let my : y < w.height = rw (sym eh) ly in
     rw ew (p.right x y mx (mul-add-lt y w.width (suc x) w.height my mx))
-neighbours ts w g ew eh p second_axis y x ly lx =
+neighbours ts w g ew eh p Two y x ly lx =
     let mx : x < w.width = rw (sym ew) lx in
     let my : suc y < w.height = rw (sym eh) ly in
     rw ew (p.above x y mx (mul-add-lt (suc y) w.width x w.height my mx))
@@ -61,13 +61,13 @@ neighbours ts w g ew eh p second_axis y x ly lx =
 grid_whole : (ts : List Tile) (w : Window) (g : Grid) → g.width ≡ w.width → g.height ≡ w.height → 1 ≤ w.width → 1 ≤ w.height → IsFilling ts w (cells w) g.cells → IsGrid g
 grid_whole ts w g ew eh lw lh p = record { wide = rw ew lw; high = rw eh lh; whole = rw (ew, eh) p.size }
 
-to_filling : (ts : List Tile) (axis : Axis) (a b r : ℕ) (g : Grid) → IsWindow (length ts) (matching ts) (grid_axis axis) a b r g
+to_filling : (ts : List Tile) (axis : Axis) (a b r : ℕ) (g : Grid) → IsWindow (length ts) (matches ts) axis a b r g
     → (g.width ≡ (window axis a b r).width) × (g.height ≡ (window axis a b r).height) × IsFilling ts (window axis a b r) (cells (window axis a b r)) g.cells
 to_filling ts One a b r g p = (p.long, p.wide, filled ts (window One a b r) g p.grid.wide p.long p.wide p.grid.whole p.tiles p.valid (rw (sym p.long) p.first) (rw (sym p.long) p.second))
 to_filling ts Two a b r g p = (p.wide, p.long, filled ts (window Two a b r) g p.grid.wide p.wide p.long p.grid.whole p.tiles p.valid (rw (sym p.wide) p.first) (rw (sym p.wide) p.second))
 
 from_filling : (ts : List Tile) (axis : Axis) (a b r : ℕ) (g : Grid) → g.width ≡ (window axis a b r).width → g.height ≡ (window axis a b r).height
-    → IsFilling ts (window axis a b r) (cells (window axis a b r)) g.cells → IsWindow (length ts) (matching ts) (grid_axis axis) a b r g
+    → IsFilling ts (window axis a b r) (cells (window axis a b r)) g.cells → IsWindow (length ts) (matches ts) axis a b r g
 from_filling ts One a b r g ew eh p = record {
   grid = grid_whole ts (window One a b r) g ew eh (omega arith) (omega arith) p;
   long = ew;
@@ -87,7 +87,7 @@ from_filling ts Two a b r g ew eh p = record {
   second = rw ew (p.second (mul-add-lt (suc r) (r + r + 1) r (r + r + 2) (omega arith) (omega arith)));
 }
 
-pub whole_windows : (ts : List Tile) (axis : Axis) (a b r : ℕ) (g : Grid) → IsWindow (length ts) (matching ts) (grid_axis axis) a b r g
+pub whole_windows : (ts : List Tile) (axis : Axis) (a b r : ℕ) (g : Grid) → IsWindow (length ts) (matches ts) axis a b r g
     ↔ ((g.width ≡ (window axis a b r).width) × (g.height ≡ (window axis a b r).height) × IsFilling ts (window axis a b r) (cells (window axis a b r)) g.cells)
 whole_windows ts axis a b r g = (to_filling ts axis a b r g, λ h. from_filling ts axis a b r g h.0 h.1 h.2)
 

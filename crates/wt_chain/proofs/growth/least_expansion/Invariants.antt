@@ -1,5 +1,5 @@
 use Rattle.std.proofs.Common.{◌≡◌, ◌-◌}
-use Rattle.wt_tile.specs.declared.tile.Axis.TheVariants.{One, Two}
+use Rattle.wt_grid.specs.declared.axis.Axis.TheVariants.{One, Two}
 use Rattle.wt_grid.specs.First.{first_from}
 use Rattle.wt_chain.specs.Tables.{turns_table}
 use Rattle.wt_chain.specs.Faults.{enough, least_expansion}

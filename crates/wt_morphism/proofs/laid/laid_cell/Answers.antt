@@ -1,5 +1,4 @@
 use Rattle.std.proofs.Common.{arith, ◌≡◌, ◌<◌, ◌+◌, ℕ, subst}
-use Rattle.wt_tile.specs.Matching.{grid_axis}
 use Rattle.wt_grid.specs.Grid.{along}
 use Rattle.wt_morphism.specs.Strands.{strands, line_is_two, strand_at, turned}
 use Rattle.wt_morphism.proofs.Cells.{strands_within}
@@ -7,7 +6,7 @@ use Rattle.wt_morphism.proofs.laid.laid_cell.Goals as goal
 
 pub at-tile-requires-clause-line : goal.at-tile-requires-clause-line
 at-tile-requires-clause-line c =
-    let n = along (grid_axis c.args.m.now.axis) c.args.p.now in
+    let n = along c.args.m.now.axis c.args.p.now in
     let two = line_is_two c.args.m.now c.args.p.now in
     let i = (turned c.args.m.now.axis c.args.x c.args.y).0 in
     let r = strands_within two 0 n i (rw (← c.requires.lines) c.requires.line) in

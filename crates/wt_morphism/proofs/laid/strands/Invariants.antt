@@ -1,8 +1,7 @@
 use Rattle.std.proofs.Common.{◌≡◌, ◌-◌, ◌++◌}
-use Rattle.wt_tile.specs.Matching.{grid_axis}
 use Rattle.wt_grid.specs.Grid.{along}
 use Rattle.wt_morphism.specs.Strands.{strands, line_is_two, all_strands}
 use Rattle.wt_morphism.proofs.laid.strands.Given as goal
 
 abbrev pub invariant-loop-line : goal.invariant-loop-line
-invariant-loop-line l = l.lines.items ++ strands (line_is_two l.m l.p) l.line (along (grid_axis l.m.axis) l.p - l.line) ≡ all_strands l.m l.p
+invariant-loop-line l = l.lines.items ++ strands (line_is_two l.m l.p) l.line (along l.m.axis l.p - l.line) ≡ all_strands l.m l.p

@@ -1,5 +1,6 @@
 use Rattle.std.proofs.Common.{◌≡◌, ◌+◌, drop}
-use Rattle.wt_names.specs.Numbering.{is_among, place}
+use Rattle.wt_tile.specs.Sets.{is_among}
+use Rattle.wt_names.specs.Numbering.{place}
 use Rattle.wt_pattern.proofs.rows.place_of.Given as goal
 
 abbrev pub invariant-loop-i : goal.invariant-loop-i
