@@ -1,11 +1,12 @@
 -- A list without a fault is a renaming, and a renaming has no fault.
 use Rattle.std.proofs.Common.{arith, ◌≡◌, ◌<◌, ◌≤◌, ◌+◌, ℕ, zero, suc, List, [], ◌∷◌, length, take, get_or, slice_index, Option, None, Some, Bool, true, false, ◌&&◌, ◌||◌, not, nat_eq, nat_lt, if◌then◌else◌, refl, sym, ◌∙◌, ap, inl, inr}
+use Rattle.std.specs.List.{list_any}
 use Rattle.std.proofs.lemmas.Bool.{cases_lt}
 use Rattle.std.proofs.lemmas.Bool.Decides.{nat_tests}
 use Rattle.wt_tile.specs.declared.tile.Tile.{Tile}
 use Rattle.wt_tile.specs.Matching.{tile_at}
 use Rattle.wt_grid.specs.First.{first_from}
-use Rattle.wt_grid.specs.Order.{has, agree}
+use Rattle.wt_grid.specs.Order.{agree}
 use Rattle.wt_grid.proofs.First.{none_from}
 use Rattle.wt_grid.proofs.Order.{both}
 use Rattle.wt_bijection.specs.Renaming.{all_from, pairs_up, tiles_pair_up, colours_fit_at, colours_fit, partner_fits, wrong_at, first_wrong, renaming_fault}
@@ -102,22 +103,22 @@ at_all p i (suc n) h = all_true (p i) (all_from p (i + 1) n) (h i (omega arith) 
 
 -- Numbers that came before.
 
-came : (xs : List ℕ) (i j a : ℕ) → i < j → i < length xs → get_or xs i 0 ≡ a → has (nat_eq a) (take j xs) ≡ true
+came : (xs : List ℕ) (i j a : ℕ) → i < j → i < length xs → get_or xs i 0 ≡ a → list_any (nat_eq a) (take j xs) ≡ true
 came [] i j a lt l e = absurd (omega arith)
 came (x ∷ xs) i zero a lt l e = absurd (omega arith)
 came (x ∷ xs) zero (suc j) a lt l e = let same : nat_eq a x ≡ true = equal_test a x (sym e) in rw same refl
-came (x ∷ xs) (suc i) (suc j) a lt l e = right (nat_eq a x) (has (nat_eq a) (take j xs)) (came xs i j a (omega arith) (omega arith) e)
+came (x ∷ xs) (suc i) (suc j) a lt l e = right (nat_eq a x) (list_any (nat_eq a) (take j xs)) (came xs i j a (omega arith) (omega arith) e)
   where
     right : (b c : Bool) → c ≡ true → (b || c) ≡ true
     right true c h = refl
     right false c h = h
 
-before : (xs : List ℕ) (j a : ℕ) → j ≤ length xs → has (nat_eq a) (take j xs) ≡ true → (i : ℕ) × (i < j) × (get_or xs i 0 ≡ a)
+before : (xs : List ℕ) (j a : ℕ) → j ≤ length xs → list_any (nat_eq a) (take j xs) ≡ true → (i : ℕ) × (i < j) × (get_or xs i 0 ≡ a)
 before [] j a le h = absurd (cc (let zero_is : j ≡ 0 = omega arith in rw zero_is at h))
 before (x ∷ xs) zero a le h = absurd (cc h)
 before (x ∷ xs) (suc j) a le h = go (nat_eq a x) refl (λ r. before xs j a (omega arith) r)
   where
-    go : (b : Bool) → nat_eq a x ≡ b → (has (nat_eq a) (take j xs) ≡ true → (i : ℕ) × (i < j) × (get_or xs i 0 ≡ a)) → (i : ℕ) × (i < suc j) × (get_or (x ∷ xs) i 0 ≡ a)
+    go : (b : Bool) → nat_eq a x ≡ b → (list_any (nat_eq a) (take j xs) ≡ true → (i : ℕ) × (i < j) × (get_or xs i 0 ≡ a)) → (i : ℕ) × (i < suc j) × (get_or (x ∷ xs) i 0 ≡ a)
     go true s r = (0, omega arith, sym (test_equal a x s))
     go false s r = let q = r (rw s at h) in (suc q.0, omega (arith, q.1), q.2)
 
@@ -125,16 +126,16 @@ before (x ∷ xs) (suc j) a le h = go (nat_eq a x) refl (λ r. before xs j a (om
 
 record Fits (from to : List Tile) (list : List ℕ) (i : ℕ) : Type 0 where
   inside : slice_index list i < length to
-  fresh : has (nat_eq (slice_index list i)) (take i list) ≡ false
+  fresh : list_any (nat_eq (slice_index list i)) (take i list) ≡ false
   colours : (j : ℕ) → j ≤ i → PairUp (tile_at from j) (tile_at from i) (tile_at to (slice_index list j)) (tile_at to (slice_index list i))
 
 fits : (from to : List Tile) (list : List ℕ) (i : ℕ) → partner_fits from to list i ≡ true → Fits from to list i
 fits from to list i e =
-    let b = both (nat_lt (slice_index list i) (length to) && not (has (nat_eq (slice_index list i)) (take i list))) (colours_fit from to list i) e in
-    let c = both (nat_lt (slice_index list i) (length to)) (not (has (nat_eq (slice_index list i)) (take i list))) b.0 in
+    let b = both (nat_lt (slice_index list i) (length to) && not (list_any (nat_eq (slice_index list i)) (take i list))) (colours_fit from to list i) e in
+    let c = both (nat_lt (slice_index list i) (length to)) (not (list_any (nat_eq (slice_index list i)) (take i list))) b.0 in
     record {
       inside = grind (arith, nat_tests, c.0);
-      fresh = not_true (has (nat_eq (slice_index list i)) (take i list)) c.1;
+      fresh = not_true (list_any (nat_eq (slice_index list i)) (take i list)) c.1;
       colours = λ j le. paired (tile_at from j) (tile_at from i) (tile_at to (slice_index list j)) (tile_at to (slice_index list i))
           (all_at (colours_fit_at from to list i) 0 (i + 1) j b.1 (omega arith) (omega arith));
     }
@@ -260,10 +261,10 @@ none_wrong : (f : ℕ → Option ℕ) (i k : ℕ) → ((j : ℕ) → i ≤ j →
 none_wrong f i zero h = refl
 none_wrong f i (suc k) h = rw (h i (omega arith) (omega arith)) (none_wrong f (i + 1) k (λ j lo hi. h j (omega arith) (omega arith)))
 
-fresh_by : (from to : List Tile) (list : List ℕ) → IsRenaming from to list → (i : ℕ) → i < length from → has (nat_eq (slice_index list i)) (take i list) ≡ false
-fresh_by from to list r i lt = go (has (nat_eq (slice_index list i)) (take i list)) refl
+fresh_by : (from to : List Tile) (list : List ℕ) → IsRenaming from to list → (i : ℕ) → i < length from → list_any (nat_eq (slice_index list i)) (take i list) ≡ false
+fresh_by from to list r i lt = go (list_any (nat_eq (slice_index list i)) (take i list)) refl
   where
-    go : (b : Bool) → has (nat_eq (slice_index list i)) (take i list) ≡ b → b ≡ false
+    go : (b : Bool) → list_any (nat_eq (slice_index list i)) (take i list) ≡ b → b ≡ false
     go false e = refl
     go true e =
         let w = r.whole in
@@ -274,12 +275,12 @@ fresh_by from to list r i lt = go (has (nat_eq (slice_index list i)) (take i lis
 right_at : (from to : List Tile) (list : List ℕ) → IsRenaming from to list → (i : ℕ) → i < length from → wrong_at from to list i ≡ None
 right_at from to list r i lt =
     let inside : nat_lt (slice_index list i) (length to) ≡ true = let l = r.inside i lt in grind (arith, nat_tests, l) in
-    let fresh : not (has (nat_eq (slice_index list i)) (take i list)) ≡ true = rw (fresh_by from to list r i lt) refl in
+    let fresh : not (list_any (nat_eq (slice_index list i)) (take i list)) ≡ true = rw (fresh_by from to list r i lt) refl in
     let colours : colours_fit from to list i ≡ true = at_all (colours_fit_at from to list i) 0 (i + 1)
     (λ j lo hi. unpaired (tile_at from j) (tile_at from i) (tile_at to (slice_index list j)) (tile_at to (slice_index list i)) (pair_of_tiles from to list r j i (omega arith) lt)) in
     let all : partner_fits from to list i ≡ true =
-    all_true (nat_lt (slice_index list i) (length to) && not (has (nat_eq (slice_index list i)) (take i list))) (colours_fit from to list i)
-    (all_true (nat_lt (slice_index list i) (length to)) (not (has (nat_eq (slice_index list i)) (take i list))) inside fresh) colours in
+    all_true (nat_lt (slice_index list i) (length to) && not (list_any (nat_eq (slice_index list i)) (take i list))) (colours_fit from to list i)
+    (all_true (nat_lt (slice_index list i) (length to)) (not (list_any (nat_eq (slice_index list i)) (take i list))) inside fresh) colours in
     rw all refl
 
 -- a renaming has no fault

@@ -1,6 +1,6 @@
 // The first number of a list that spoils it as a renaming.
 ghost use Rattle.std.specs.Prelude.{◌≡◌, ◌<◌, ◌≤◌, nat_eq, length, None, Some, MatchResult, IfSome, IfErr};
-ghost use Rattle.wt_grid.specs.Order.{has};
+ghost use Rattle.std.specs.List.{list_any};
 ghost use Rattle.wt_bijection.specs.Renaming.{pairs_up, tiles_pair_up, first_wrong};
 ghost use Rattle.wt_bijection.specs.Renaming as spec;
 
@@ -28,7 +28,7 @@ fn tiles_agree(t: Tile, u: Tile, p: Tile, q: Tile) -> bool
 
 /// Whether a number stands in a list.
 fn is_among(number: u16, numbers: &[u16]) -> bool
-    ensures { result ≡ has (nat_eq number) numbers.now }
+    ensures { result ≡ list_any (nat_eq number) numbers.now }
 {
     for other in numbers {
         if number == *other {

@@ -1,5 +1,6 @@
 -- Lines and tokens that are written one after the other.
 use Rattle.std.proofs.Common.{rules, arith, ◌≡◌, ℕ, zero, suc, ◌+◌, Bool, true, false, List, [], ◌∷◌, ◌++◌, ◌<◌, if◌then◌else◌, length, get_or, map, drop, refl, sym, ap, ◌∙◌, append_assoc}
+use Rattle.std.specs.List.{flat_map}
 use Rattle.wt_grid.specs.declared.axis.Axis.{Axis}
 use Rattle.std.proofs.lemmas.List.{append-nil}
 use Rattle.std.specs.Fmt.{decimal}
@@ -13,7 +14,6 @@ use Rattle.wt_refute.proofs.Children.{view_more}
 use Rattle.wt_cert.specs.Trees.{tree_spelling, branches_spelling, branch_count, axis_word}
 use Rattle.wt_text.specs.Words.{spaced}
 use Rattle.wt_text.specs.Lines.{Line, line_of, bytes_of}
-use Rattle.wt_text.specs.Spellings.{flat}
 use Rattle.wt_write.specs.Behind.{behind_spaces}
 use Rattle.wt_write.proofs.Spaces.{spaced_first, behind_both}
 

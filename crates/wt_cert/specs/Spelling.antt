@@ -1,5 +1,6 @@
 -- How a chain is written: its lines, token by token, in the grammar's order.
 use Rattle.std.specs.Prelude.{ℕ, ◌+◌, List, [], ◌∷◌, ◌++◌, length, map, codes}
+use Rattle.std.specs.List.{flat_map}
 use Rattle.wt_grid.specs.declared.image.Image.TheVariants.{One as Single, Two as Double}
 use Rattle.wt_grid.specs.declared.image.Image.{Image}
 use Rattle.wt_grid.specs.declared.axis.Side.TheVariants.{After, Before}
@@ -21,7 +22,7 @@ use Rattle.wt_chain.specs.declared.raw.End.{End}
 use Rattle.wt_chain.specs.declared.raw.End.TheVariants.{Open, Loop}
 use Rattle.wt_chain.specs.declared.raw.RawChain.{RawChain}
 use Rattle.wt_text.specs.Lines.{Line, line_of}
-use Rattle.wt_text.specs.Spellings.{line_spelling, flat}
+use Rattle.wt_text.specs.Spellings.{line_spelling}
 use Rattle.wt_pattern.specs.TileRows.{rows_spelling}
 use Rattle.wt_cert.specs.Trees.{tree_spelling}
 
@@ -57,7 +58,7 @@ abbrev pub pair_tokens : ℕ × ℕ → List (List ℕ)
 pair_tokens x = decimal x.0 ∷ decimal x.1 ∷ []
 
 abbrev pub allowed_lines : List ℕ → List (ℕ × ℕ) → List Line
-allowed_lines a xs = line (codes "allowed" ∷ count_tokens a (length xs)) ++ flat (line_spelling pair_tokens) xs
+allowed_lines a xs = line (codes "allowed" ∷ count_tokens a (length xs)) ++ flat_map (line_spelling pair_tokens) xs
 
 -- refuted c, and c refutations; only version two tells their radius
 abbrev pub radius_tokens : Version → ℕ → List (List ℕ)
@@ -68,14 +69,14 @@ abbrev pub refuted_tokens : Version → Refuted → List (List ℕ)
 refuted_tokens version x = axis_digit x.axis ∷ decimal x.a ∷ decimal x.b ∷ (radius_tokens version x.radius ++ tree_spelling (refutation x.tree))
 
 abbrev pub refuted_lines : Version → List Refuted → List Line
-refuted_lines version xs = line (count_tokens (codes "refuted") (length xs)) ++ flat (line_spelling (refuted_tokens version)) xs
+refuted_lines version xs = line (count_tokens (codes "refuted") (length xs)) ++ flat_map (line_spelling (refuted_tokens version)) xs
 
 -- lost c, and c lost tiles
 abbrev pub lost_tokens : Lost → List (List ℕ)
 lost_tokens x = decimal x.tile ∷ tree_spelling (refutation x.tree)
 
 abbrev pub lost_lines : List Lost → List Line
-lost_lines xs = line (count_tokens (codes "lost") (length xs)) ++ flat (line_spelling lost_tokens) xs
+lost_lines xs = line (count_tokens (codes "lost") (length xs)) ++ flat_map (line_spelling lost_tokens) xs
 
 -- images c, and c images
 abbrev pub image_tokens : Image → List (List ℕ)
@@ -83,7 +84,7 @@ image_tokens (Single u) = decimal u ∷ []
 image_tokens (Double u v) = decimal u ∷ decimal v ∷ []
 
 abbrev pub images_lines : List Image → List Line
-images_lines xs = line (count_tokens (codes "images") (length xs)) ++ flat (line_spelling image_tokens) xs
+images_lines xs = line (count_tokens (codes "images") (length xs)) ++ flat_map (line_spelling image_tokens) xs
 
 -- ---- the block of step k
 

@@ -1,9 +1,9 @@
 -- What a chain without a fault has, and what has no fault.
 use Rattle.std.proofs.Common.{arith, ◌≡◌, ◌<◌, ◌≤◌, ◌-◌, ◌+◌, ℕ, zero, suc, List, [], ◌∷◌, ◌++◌, length, get_or, slice_get, Option, None, Some, option_map, Bool, true, false, ◌&&◌, nat_lt, if◌then◌else◌, refl, sym, ◌∙◌, ap}
+use Rattle.std.specs.List.{list_all}
 use Rattle.std.proofs.lemmas.Bool.Decides.{nat_tests}
 use Rattle.wt_tile.specs.declared.tile.TileList.{TileList}
 use Rattle.wt_grid.specs.First.{or_else}
-use Rattle.wt_grid.specs.Order.{all_of}
 use Rattle.wt_grid.proofs.First.{neither}
 use Rattle.wt_step.specs.declared.raw.RawLink.{RawLink}
 use Rattle.wt_step.specs.Links.{link_fault, fine_of, coarse_of}

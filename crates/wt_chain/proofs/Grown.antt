@@ -1,5 +1,6 @@
 -- The tables tell how large images grow.
 use Rattle.std.proofs.Common.{arith, ◌≡◌, ◌<◌, ◌≤◌, ◌+◌, ℕ, zero, suc, List, [], ◌∷◌, length, map, replicate, get_or, slice_index_or, Bool, true, false, ◌&&◌, ◌||◌, nat_eq, nat_lt, nat_le, if◌then◌else◌, Option, None, Some, option_map, refl, sym, ◌∙◌, ap}
+use Rattle.std.specs.List.{list_all}
 use Rattle.wt_grid.specs.Traces.{piece_tiles}
 use Rattle.wt_grid.specs.Images.{first_tile}
 use Rattle.wt_grid.specs.declared.image.Image.TheVariants.{One as Single, Two as Double}
@@ -13,7 +14,7 @@ use Rattle.wt_tile.specs.declared.tile.TileList.{TileList}
 use Rattle.wt_tile.specs.Sets.{set_fault}
 use Rattle.wt_tile.proofs.Sizes.{few_tiles}
 use Rattle.wt_grid.specs.First.{or_else, first_from}
-use Rattle.wt_grid.specs.Order.{all_of, in_order, leads, is_below, follows}
+use Rattle.wt_grid.specs.Order.{in_order, leads, is_below, follows}
 use Rattle.wt_grid.specs.Widths.{Stage, width, total}
 use Rattle.wt_grid.proofs.First.{neither}
 use Rattle.wt_grid.proofs.Order.{both}
@@ -36,10 +37,10 @@ use Rattle.wt_chain.specs.Tables.{entry, grows_by, grows, next_table, climb, ori
 
 -- What good steps say of images.
 
-all_at : {A : Type 0} (p : A → Bool) (xs : List A) (t : ℕ) (d : A) → all_of p xs ≡ true → t < length xs → p (get_or xs t d) ≡ true
+all_at : {A : Type 0} (p : A → Bool) (xs : List A) (t : ℕ) (d : A) → list_all p xs ≡ true → t < length xs → p (get_or xs t d) ≡ true
 all_at p [] t d e lt = absurd (omega arith)
-all_at p (x ∷ xs) zero d e lt = (both (p x) (all_of p xs) e).0
-all_at p (x ∷ xs) (suc t) d e lt = all_at p xs t d (both (p x) (all_of p xs) e).1 (omega arith)
+all_at p (x ∷ xs) zero d e lt = (both (p x) (list_all p xs) e).0
+all_at p (x ∷ xs) (suc t) d e lt = all_at p xs t d (both (p x) (list_all p xs) e).1 (omega arith)
 
 ordered_at : (n : ℕ) (xs : List ℕ) (t : ℕ) → in_order (is_below n) follows xs ≡ true → t < length xs → get_or xs t 0 < n
 ordered_at n [] t e lt = absurd (omega arith)
@@ -58,7 +59,7 @@ fits_first n (Double a b) e = let g = both (nat_lt a n) (nat_lt b n) e in grind 
 
 marker_first : (s : RawStep) → step_fault s ≡ None → (t : ℕ) → t < length s.coarse.tiles → first_tile (slice_index_or s.images t (Single 0)) < length s.fine.tiles
 marker_first s e t lt =
-    let b = both (nat_eq (length s.images) (length s.coarse.tiles)) (all_of (image_fits (length s.fine.tiles)) s.images) (good_step s e).shaped.images in
+    let b = both (nat_eq (length s.images) (length s.coarse.tiles)) (list_all (image_fits (length s.fine.tiles)) s.images) (good_step s e).shaped.images in
     let n : length s.images ≡ length s.coarse.tiles = grind (arith, nat_tests, b.0) in
     fits_first (length s.fine.tiles) (slice_index_or s.images t (Single 0)) (all_at (image_fits (length s.fine.tiles)) s.images t (Single 0) b.1 (omega arith))
 

@@ -1,9 +1,9 @@
 -- Chains that are put together stay good.
 use Rattle.std.proofs.Common.{arith, ◌≡◌, ◌<◌, ◌≤◌, ◌+◌, ℕ, List, [], ◌∷◌, ◌++◌, length, length-append, Option, None, Some, option_map, Bool, true, false, ◌&&◌, nat_lt, if◌then◌else◌, refl, sym, ◌∙◌, ap}
+use Rattle.std.specs.List.{list_all}
 use Rattle.std.proofs.lemmas.Bool.Decides.{nat_tests}
 use Rattle.wt_tile.specs.declared.tile.TileList.{TileList}
 use Rattle.wt_grid.specs.First.{or_else}
-use Rattle.wt_grid.specs.Order.{all_of}
 use Rattle.wt_grid.proofs.First.{neither}
 use Rattle.wt_step.specs.declared.raw.RawLink.{RawLink}
 use Rattle.wt_step.specs.Links.{link_fault, fine_of, coarse_of}
@@ -21,13 +21,13 @@ use Rattle.wt_chain.proofs.Good.{Parts, parts, no_fault}
 
 -- Versions.
 
-all_more : {A : Type 0} (p : A → Bool) (xs : List A) (x : A) → all_of p (xs ++ x ∷ []) ≡ (all_of p xs && p x)
+all_more : {A : Type 0} (p : A → Bool) (xs : List A) (x : A) → list_all p (xs ++ x ∷ []) ≡ (list_all p xs && p x)
 all_more p [] x = at_one (p x)
   where
     at_one : (b : Bool) → (b && true) ≡ (true && b)
     at_one true = refl
     at_one false = refl
-all_more p (y ∷ xs) x = ap (λ b. p y && b) (all_more p xs x) ∙ regroup (p y) (all_of p xs) (p x)
+all_more p (y ∷ xs) x = ap (λ b. p y && b) (all_more p xs x) ∙ regroup (p y) (list_all p xs) (p x)
   where
     regroup : (a b c : Bool) → (a && (b && c)) ≡ (a && b && c)
     regroup true b c = refl
@@ -37,17 +37,17 @@ version_by : Bool → Version
 version_by b = if b then One else Two
 
 version_more : (links : List RawLink) (link : RawLink) → one_more (version_of links) link ≡ version_of (links ++ link ∷ [])
-version_more links link = at_all (all_of is_first_version links) refl
+version_more links link = at_all (list_all is_first_version links) refl
   where
-    at_all : (b : Bool) → all_of is_first_version links ≡ b → one_more (version_of links) link ≡ version_of (links ++ link ∷ [])
+    at_all : (b : Bool) → list_all is_first_version links ≡ b → one_more (version_of links) link ≡ version_of (links ++ link ∷ [])
     at_all true e = rw (all_more is_first_version links link, e) refl
     at_all false e = rw (all_more is_first_version links link, e) refl
 
 -- a chain that is put together has a version that has its steps
 pub own_version : (links : List RawLink) → version_fits (version_of links) links ≡ true
-own_version links = at_all (all_of is_first_version links) refl
+own_version links = at_all (list_all is_first_version links) refl
   where
-    at_all : (b : Bool) → all_of is_first_version links ≡ b → version_fits (version_of links) links ≡ true
+    at_all : (b : Bool) → list_all is_first_version links ≡ b → version_fits (version_of links) links ≡ true
     at_all true e = rw e (e)
     at_all false e = rw e refl
 

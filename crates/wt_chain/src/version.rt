@@ -1,6 +1,6 @@
 // What the two versions of certificates allow.
 ghost use Rattle.std.specs.Prelude.{◌≡◌};
-ghost use Rattle.wt_grid.specs.Order.{all_of};
+ghost use Rattle.std.specs.List.{list_all};
 ghost use Rattle.wt_refute.specs.View.{refutation};
 ghost use Rattle.wt_chain.specs.Versions as spec;
 
@@ -32,7 +32,7 @@ fn is_plain(radius: u8, refuted: &Refuted) -> bool
 }
 
 fn are_plain(radius: u8, refuted: &[Refuted]) -> bool
-    ensures { result ≡ all_of (spec.is_plain radius) refuted.now }
+    ensures { result ≡ list_all (spec.is_plain radius) refuted.now }
 {
     for entry in refuted {
         if !is_plain(radius, entry) {
@@ -53,7 +53,7 @@ pub fn is_first_version(link: &RawLink) -> bool
 }
 
 fn are_first_version(links: &[RawLink]) -> bool
-    ensures { result ≡ all_of spec.is_first_version links.now }
+    ensures { result ≡ list_all spec.is_first_version links.now }
 {
     for link in links {
         if !is_first_version(link) {

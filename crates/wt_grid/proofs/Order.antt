@@ -1,17 +1,18 @@
 -- Look-ups in lists in strict order.
 use Rattle.std.proofs.Common.{arith, ◌≡◌, ◌≤◌, ◌-◌, List, [], ◌∷◌, ◌++◌, length, take, drop, get_or, Bool, true, false, Some, None, ◌&&◌, refl, sym, ◌∙◌, ap, subst, inl, inr, is_some}
+use Rattle.std.specs.List.{list_any, find}
 use Rattle.std.proofs.lemmas.List.{take_all}
-use Rattle.wt_grid.specs.Order.{leads, in_order, has, find, AllAbove, IsSplit}
+use Rattle.wt_grid.specs.Order.{leads, in_order, AllAbove, IsSplit}
 
 pub both : (a b : Bool) → (a && b) ≡ true → (a ≡ true) × (b ≡ true)
 both true b e = (refl, e)
 both false b e = absurd cc
 
-pub has_found : {A : Type 0} (p : A → Bool) (xs : List A) → has p xs ≡ is_some (find p xs)
+pub has_found : {A : Type 0} (p : A → Bool) (xs : List A) → list_any p xs ≡ is_some (find p xs)
 has_found p [] = refl
 has_found p (x ∷ xs) = at_first (p x) refl (has_found p xs)
   where
-    at_first : (b : Bool) → p x ≡ b → has p xs ≡ is_some (find p xs) → has p (x ∷ xs) ≡ is_some (find p (x ∷ xs))
+    at_first : (b : Bool) → p x ≡ b → list_any p xs ≡ is_some (find p xs) → list_any p (x ∷ xs) ≡ is_some (find p (x ∷ xs))
     at_first true e r = rw e refl
     at_first false e r = rw e r
 
@@ -95,7 +96,7 @@ module _ {A : Type 0} (low hit : A → Bool) where
         at_first true e s a = inl (e, apart x e, s)
         at_first false e s a = inr (e, a e)
 
-pub has_same : {A : Type 0} (p : A → Bool) (xs ys : List A) → find p xs ≡ find p ys → has p xs ≡ has p ys
+pub has_same : {A : Type 0} (p : A → Bool) (xs ys : List A) → find p xs ≡ find p ys → list_any p xs ≡ list_any p ys
 has_same p xs ys e = has_found p xs ∙ (ap is_some e ∙ sym (has_found p ys))
 
 module _ {A : Type 0} (low hit : A → Bool) where
@@ -104,7 +105,7 @@ module _ {A : Type 0} (low hit : A → Bool) where
 
   -- the same for a list cut in two, as code sees the second part
   pub up : (xs front back : List A) (d : A) → front ++ back ≡ xs → 1 ≤ length back → IsSplit low hit xs → low (get_or back 0 d) ≡ true
-      → (find hit (take (length back - 1) (drop 1 back)) ≡ find hit xs) × (has hit (take (length back - 1) (drop 1 back)) ≡ has hit xs) × IsSplit low hit (take (length back - 1) (drop 1 back))
+      → (find hit (take (length back - 1) (drop 1 back)) ≡ find hit xs) × (list_any hit (take (length back - 1) (drop 1 back)) ≡ list_any hit xs) × IsSplit low hit (take (length back - 1) (drop 1 back))
   up xs front [] d e some s h = absurd (omega arith)
   up xs front (x ∷ as') d e some s h =
       let r = goes_up low hit front x as' (let P : List A → Type 0 = λ ys. IsSplit low hit ys in subst P (sym e) s) h in
@@ -112,7 +113,7 @@ module _ {A : Type 0} (low hit : A → Bool) where
       rw (others x as') (same, has_same hit as' xs same, r.1)
 
   pub down : (xs front back : List A) (d : A) → front ++ back ≡ xs → 1 ≤ length back → IsSplit low hit xs → low (get_or back 0 d) ≡ false → hit (get_or back 0 d) ≡ false
-      → (find hit front ≡ find hit xs) × (has hit front ≡ has hit xs) × IsSplit low hit front
+      → (find hit front ≡ find hit xs) × (list_any hit front ≡ list_any hit xs) × IsSplit low hit front
   down xs front [] d e some s h g = absurd (omega arith)
   down xs front (x ∷ as') d e some s h g =
       let r = goes_down low hit front x as' (let P : List A → Type 0 = λ ys. IsSplit low hit ys in subst P (sym e) s) h g in

@@ -15,20 +15,6 @@ abbrev pub in_order : {A : Type 0} → (A → Bool) → (A → A → Bool) → L
 in_order fits before [] = true
 in_order fits before (x ∷ xs) = fits x && leads before x xs && in_order fits before xs
 
-abbrev pub all_of : {A : Type 0} → (A → Bool) → List A → Bool
-all_of p [] = true
-all_of p (x ∷ xs) = p x && all_of p xs
-
--- an element passes
-abbrev pub has : {A : Type 0} → (A → Bool) → List A → Bool
-has p [] = false
-has p (x ∷ xs) = p x || has p xs
-
--- the first element that passes
-abbrev pub find : {A : Type 0} → (A → Bool) → List A → Option A
-find p [] = None
-find p (x ∷ xs) = if p x then Some x else find p xs
-
 -- the first answer of f on a list
 abbrev pub first_in : {A B : Type 0} → (A → Option B) → List A → Option B
 first_in f [] = None

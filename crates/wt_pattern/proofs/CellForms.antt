@@ -1,11 +1,12 @@
 -- Rows of numbers in lines, both ways.
 use Rattle.std.proofs.Common.{rules, arith, ◌≡◌, ℕ, zero, suc, ◌+◌, ◌*◌, ◌≤◌, ◌<◌, List, [], ◌∷◌, ◌++◌, length, map, Option, Some, Result, Ok, Err, refl, sym, ap, ◌∙◌, subst, length-append}
+use Rattle.std.specs.List.{flat_map}
 use Rattle.std.specs.Fmt.{decimal}
 use Rattle.wt_line.specs.declared.faults.What.{What}
 use Rattle.wt_line.specs.declared.faults.What.TheVariants.{Number}
 use Rattle.wt_text.specs.Lines.{Line}
 use Rattle.wt_text.specs.Readers.{◌>>=◌, joined, one_line}
-use Rattle.wt_text.specs.Spellings.{IsClean, AllFit, IsSome, number_spelling, line_spelling, flat, FitInTurn}
+use Rattle.wt_text.specs.Spellings.{IsClean, AllFit, IsSome, number_spelling, line_spelling, FitInTurn}
 use Rattle.wt_text.proofs.Formats.{IsFormat, IsLine, number_format, fit_line, bind_some, read_is, joined_ok}
 use Rattle.wt_text.proofs.Texts.{IsPart, line_part, many_part}
 use Rattle.wt_pattern.specs.TileRows.{no_state}
@@ -56,7 +57,7 @@ cells_some n le (c ∷ cs) fits = tt
 pub cells_line : (width : ℕ) → 1 ≤ width → IsLine (cells_form width) cells_spelling (CellsFit width)
 cells_line width le = fit_line (cells_some width le) (cells_format width)
 
-pub rows_law : (width height : ℕ) → 1 ≤ width → IsPart (cells_rows width height) (flat (line_spelling cells_spelling)) (λ rows. (length rows ≡ height) × FitInTurn (λ s. CellsFit width) no_state 0 rows)
+pub rows_law : (width height : ℕ) → 1 ≤ width → IsPart (cells_rows width height) (flat_map (line_spelling cells_spelling)) (λ rows. (length rows ≡ height) × FitInTurn (λ s. CellsFit width) no_state 0 rows)
 rows_law width height le = many_part no_state (λ s. line_part (cells_line width le)) 0 height
 
 pub stacked_length : (width : ℕ) (rows : List (List ℕ)) → FitInTurn (λ s. CellsFit width) no_state 0 rows → length (from_bottom rows) ≡ width * length rows

@@ -1,12 +1,13 @@
 -- Patterns as text, both ways.
 use Rattle.std.proofs.Common.{rules, arith, ◌≡◌, ℕ, zero, suc, ◌+◌, ◌-◌, ◌*◌, ◌≤◌, ◌<◌, ◌++◌, List, [], ◌∷◌, length, take, drop, min, Result, Ok, refl, sym, ap, ◌∙◌, subst, append_assoc, length-append, length-drop, length-take}
+use Rattle.std.specs.List.{flat_map}
 use Rattle.std.proofs.Math.Seq.{take-add}
 use Rattle.std.proofs.lemmas.Nat.{mul-le}
 use Rattle.std.proofs.lemmas.List.{take_at, drop_at, take_all}
 use Rattle.wt_line.specs.declared.faults.What.{What}
 use Rattle.wt_text.specs.Lines.{Line, lines, bytes_of}
 use Rattle.wt_text.specs.Readers.{TextFault, whole_text}
-use Rattle.wt_text.specs.Spellings.{AllFit, line_spelling, flat, FitInTurn}
+use Rattle.wt_text.specs.Spellings.{AllFit, line_spelling, FitInTurn}
 use Rattle.wt_text.proofs.Texts.{IsPart, IsWhole, text_whole}
 use Rattle.wt_text.proofs.Seen.{seen_part}
 use Rattle.wt_grid.specs.Grid.{Grid, IsGrid}
@@ -64,7 +65,7 @@ rows_back w h rows fits =
 abbrev pub GridFits : ℕ → ℕ → Grid → Type 0
 GridFits w h g = ((length (rows_below g h) ≡ h) × FitInTurn (λ s. CellsFit w) no_state 0 (rows_below g h)) × (rows_grid w h (rows_below g h) ≡ g)
 
-pub grid_law : (w h : ℕ) → 1 ≤ w → IsPart (pattern_rows w h) (λ g. flat (line_spelling cells_spelling) (rows_below g h)) (GridFits w h)
+pub grid_law : (w h : ℕ) → 1 ≤ w → IsPart (pattern_rows w h) (λ g. flat_map (line_spelling cells_spelling) (rows_below g h)) (GridFits w h)
 grid_law w h le = seen_part (rows_grid w h) (λ g. rows_below g h) (λ rows fits. rows_back w h rows fits) (rows_law w h le)
 
 small_take : (n : ℕ) (cs : List ℕ) → AllFit (λ c. c ≤ 65535) cs → AllFit (λ c. c ≤ 65535) (take n cs)
@@ -104,7 +105,7 @@ rows_fit g h (suc n) size small le =
 -- what is read is spelled so
 pub grid_spelled : (bytes : List ℕ) (w h : ℕ) (g : Grid) → 1 ≤ w → 1 ≤ h → whole_text (pattern_rows w h) (lines bytes) ≡ Ok g → (bytes ≡ bytes_of (pattern_lines g)) × (g.width ≡ w) × (g.height ≡ h) × IsGrid g × AllFit (λ c. c ≤ 65535) g.cells
 grid_spelled bytes w h g wide high e =
-    let t : IsWhole (whole_text (pattern_rows w h)) (λ x. flat (line_spelling cells_spelling) (rows_below x h)) (GridFits w h) = text_whole (grid_law w h wide) in
+    let t : IsWhole (whole_text (pattern_rows w h)) (λ x. flat_map (line_spelling cells_spelling) (rows_below x h)) (GridFits w h) = text_whole (grid_law w h wide) in
     let f = t.found bytes g e in
     let rows = rows_below g h in
     let same : rows_grid w h rows ≡ g = f.1.1 in
@@ -112,10 +113,10 @@ grid_spelled bytes w h g wide high e =
     let height : g.height ≡ h = sym (ap (λ (x : Grid). x.height) same) in
     let P : Grid → Type 0 = λ x. (x.width ≡ w) × (x.height ≡ h) × IsGrid x × AllFit (λ c. c ≤ 65535) x.cells in
     let made = subst P same (refl, refl, record { wide = wide; high = high; whole = size }, small_stack w rows f.1.0.1) in
-    (f.0 ∙ ap (λ (n : ℕ). bytes_of (flat (line_spelling cells_spelling) (rows_below g n))) (sym height), made.0, made.1, made.2, made.3)
+    (f.0 ∙ ap (λ (n : ℕ). bytes_of (flat_map (line_spelling cells_spelling) (rows_below g n))) (sym height), made.0, made.1, made.2, made.3)
 
 -- what is spelled is read
 pub grid_read : (g : Grid) → IsGrid g → AllFit (λ c. c ≤ 65535) g.cells → whole_text (pattern_rows g.width g.height) (lines (bytes_of (pattern_lines g))) ≡ Ok g
 grid_read g good small =
-    let t : IsWhole (whole_text (pattern_rows g.width g.height)) (λ x. flat (line_spelling cells_spelling) (rows_below x g.height)) (GridFits g.width g.height) = text_whole (grid_law g.width g.height good.wide) in
+    let t : IsWhole (whole_text (pattern_rows g.width g.height)) (λ x. flat_map (line_spelling cells_spelling) (rows_below x g.height)) (GridFits g.width g.height) = text_whole (grid_law g.width g.height good.wide) in
     t.again g ((count_below g g.height, rows_fit g g.height g.height good.whole small (omega arith)), ap (λ (cs : List ℕ). record { width = g.width; height = g.height; cells = cs }) (all_below g good))

@@ -1,11 +1,12 @@
 -- Lists of tiles as text, both ways.
 use Rattle.std.proofs.Common.{rules, arith, ◌≡◌, ℕ, zero, suc, ◌≤◌, ◌<◌, ◌++◌, List, [], ◌∷◌, length, map, Result, Ok, refl, sym, ap, ◌∙◌, subst}
+use Rattle.std.specs.List.{flat_map}
 use Rattle.wt_tile.specs.declared.tile.Tile.{Tile}
 use Rattle.wt_tile.specs.declared.tile.TileList.{TileList}
 use Rattle.wt_line.specs.declared.faults.What.{What}
 use Rattle.wt_text.specs.Lines.{Line, lines, bytes_of}
 use Rattle.wt_text.specs.Readers.{TextFault, one_line, many_parts, whole_text}
-use Rattle.wt_text.specs.Spellings.{AllFit, line_spelling, flat, FitInTurn}
+use Rattle.wt_text.specs.Spellings.{AllFit, line_spelling, FitInTurn}
 use Rattle.wt_text.proofs.Texts.{IsPart, IsWhole, line_part, many_part, text_whole}
 use Rattle.wt_text.proofs.Seen.{seen_part}
 use Rattle.wt_names.specs.Numbering.{named}
@@ -39,7 +40,7 @@ one_row e = line_spelling row_spelling (row_names e)
 pub row_law : {W : Type 0} → IsPart {W = W} row_part one_row RowFit
 row_law = seen_part row_edges row_names (λ a fits. refl) (line_part row_line)
 
-pub rows_law : {W : Type 0} (n : ℕ) → IsPart {W = W} (many_parts (λ s. row_part) no_state 0 n) (flat one_row) (λ rows. (length rows ≡ n) × FitInTurn (λ s. RowFit) no_state 0 rows)
+pub rows_law : {W : Type 0} (n : ℕ) → IsPart {W = W} (many_parts (λ s. row_part) no_state 0 n) (flat_map one_row) (λ rows. (length rows ≡ n) × FitInTurn (λ s. RowFit) no_state 0 rows)
 rows_law n = many_part no_state (λ s. row_law) 0 n
 
 -- so many rows as a list of tiles

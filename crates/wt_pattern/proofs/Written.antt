@@ -1,11 +1,12 @@
 -- Rows that are written one after the other.
 use Rattle.std.proofs.Common.{rules, arith, ◌≡◌, ℕ, zero, suc, ◌+◌, ◌≤◌, ◌<◌, List, [], ◌∷◌, ◌++◌, length, get_or, map, drop, refl, sym, ap, ◌∙◌, append_assoc, add-one, drop-cons}
+use Rattle.std.specs.List.{flat_map}
 use Rattle.std.proofs.lemmas.List.{append-nil}
 use Rattle.std.specs.Fmt.{decimal}
 use Rattle.wt_tile.specs.declared.tile.Tile.{Tile}
 use Rattle.wt_text.specs.Lines.{Line, bytes_of}
 use Rattle.wt_text.specs.Words.{spaced}
-use Rattle.wt_text.specs.Spellings.{line_spelling, flat}
+use Rattle.wt_text.specs.Spellings.{line_spelling}
 use Rattle.wt_names.specs.Numbering.{name_at, named}
 use Rattle.wt_names.specs.Rows.{along1, along2, tiles_from, row_spelling}
 use Rattle.wt_grid.specs.Grid.{Grid}
@@ -15,7 +16,7 @@ use Rattle.wt_pattern.specs.Writing.{tile_bytes}
 
 -- the lines of tiles with these names
 abbrev pub tile_lines : List (List ℕ) → List (List ℕ) → List Tile → List Line
-tile_lines names1 names2 ts = flat (λ e. line_spelling row_spelling (row_names e)) (tiles_from (named names1 (along1 (map tile_edges ts))) (named names2 (along2 (map tile_edges ts))))
+tile_lines names1 names2 ts = flat_map (λ e. line_spelling row_spelling (row_names e)) (tiles_from (named names1 (along1 (map tile_edges ts))) (named names2 (along2 (map tile_edges ts))))
 
 four_names : (a b c d rest : List ℕ) → (a ++ 32 ∷ (b ++ 32 ∷ (c ++ 32 ∷ d))) ++ 10 ∷ rest ≡ (a ++ 32 ∷ (b ++ 32 ∷ (c ++ 32 ∷ (d ++ 10 ∷ [])))) ++ rest
 four_names a b c d rest = simp append_assoc refl
@@ -23,8 +24,8 @@ four_names a b c d rest = simp append_assoc refl
 first_tile : (names1 names2 : List (List ℕ)) (t : Tile) (ts : List Tile) → bytes_of (tile_lines names1 names2 (t ∷ ts)) ≡ tile_bytes names1 names2 t ++ bytes_of (tile_lines names1 names2 ts)
 first_tile names1 names2 t ts = four_names (name_at names1 t.east) (name_at names2 t.north) (name_at names1 t.west) (name_at names2 t.south) (bytes_of (tile_lines names1 names2 ts))
 
-first_row : (g : Grid) (y : ℕ) → bytes_of (flat (line_spelling cells_spelling) (rows_below g (suc y))) ≡ (spaced (map decimal (row_cells g y)) ++ 10 ∷ []) ++ bytes_of (flat (line_spelling cells_spelling) (rows_below g y))
-first_row g y = sym (append_assoc (spaced (map decimal (row_cells g y))) (10 ∷ []) (bytes_of (flat (line_spelling cells_spelling) (rows_below g y))))
+first_row : (g : Grid) (y : ℕ) → bytes_of (flat_map (line_spelling cells_spelling) (rows_below g (suc y))) ≡ (spaced (map decimal (row_cells g y)) ++ 10 ∷ []) ++ bytes_of (flat_map (line_spelling cells_spelling) (rows_below g y))
+first_row g y = sym (append_assoc (spaced (map decimal (row_cells g y))) (10 ∷ []) (bytes_of (flat_map (line_spelling cells_spelling) (rows_below g y))))
 
 -- one tile more
 pub tile_written : (names1 names2 : List (List ℕ)) (ts : List Tile) (i : ℕ) (t : Tile) (out new total : List ℕ) → drop i ts ≡ t ∷ drop (i + 1) ts → new ≡ out ++ tile_bytes names1 names2 t
@@ -35,11 +36,11 @@ tile_written names1 names2 ts i t out new total d n so_far =
 
 -- one row more
 pub row_written : (g : Grid) (y z : ℕ) (out new total : List ℕ) → y ≡ suc z → new ≡ out ++ spaced (map decimal (row_cells g z)) ++ 10 ∷ []
-    → out ++ bytes_of (flat (line_spelling cells_spelling) (rows_below g y)) ≡ total → new ++ bytes_of (flat (line_spelling cells_spelling) (rows_below g z)) ≡ total
+    → out ++ bytes_of (flat_map (line_spelling cells_spelling) (rows_below g y)) ≡ total → new ++ bytes_of (flat_map (line_spelling cells_spelling) (rows_below g z)) ≡ total
 row_written g y z out new total k n so_far =
-    let rest = bytes_of (flat (line_spelling cells_spelling) (rows_below g z)) in
+    let rest = bytes_of (flat_map (line_spelling cells_spelling) (rows_below g z)) in
     let row = spaced (map decimal (row_cells g z)) ++ 10 ∷ [] in
-    let e : bytes_of (flat (line_spelling cells_spelling) (rows_below g y)) ≡ row ++ rest = ap (λ (x : ℕ). bytes_of (flat (line_spelling cells_spelling) (rows_below g x))) k ∙ first_row g z in
+    let e : bytes_of (flat_map (line_spelling cells_spelling) (rows_below g y)) ≡ row ++ rest = ap (λ (x : ℕ). bytes_of (flat_map (line_spelling cells_spelling) (rows_below g x))) k ∙ first_row g z in
     ap (λ (x : List ℕ). x ++ rest) (n ∙ append_assoc out (spaced (map decimal (row_cells g z))) (10 ∷ [])) ∙ append_assoc out row rest ∙ ap (λ (x : List ℕ). out ++ x) (sym e) ∙ so_far
 
 -- a name by its number

@@ -1,12 +1,13 @@
 -- Patterns as text: a row of numbers in each line, the top row first.
 use Rattle.std.specs.Prelude.{◌≡◌, ℕ, zero, suc, ◌+◌, ◌*◌, ◌≤◌, nat_eq, if◌then◌else◌, List, [], ◌∷◌, ◌++◌, length, map, slice_range, Option, None, Some, Result, Ok, codes}
+use Rattle.std.specs.List.{flat_map}
 use Rattle.std.specs.Fmt.{decimal}
 use Rattle.wt_line.specs.declared.faults.What.{What}
 use Rattle.wt_line.specs.declared.faults.What.TheVariants.{Width, Height, Number}
 use Rattle.wt_text.specs.Words.{number}
 use Rattle.wt_text.specs.Lines.{Line}
 use Rattle.wt_text.specs.Readers.{◌>>=◌, LineFault, TextFault, within, number_to, behind, both, whole, joined, one_line, many_parts, seen_as, part_by}
-use Rattle.wt_text.specs.Spellings.{behind_spelling, both_spelling, number_spelling, line_spelling, flat}
+use Rattle.wt_text.specs.Spellings.{behind_spelling, both_spelling, number_spelling, line_spelling}
 use Rattle.wt_grid.specs.Grid.{Grid}
 use Rattle.wt_pattern.specs.TileRows.{no_state}
 
@@ -71,4 +72,4 @@ cells_spelling row = map decimal row
 
 -- the lines of a pattern, the top row first
 abbrev pub pattern_lines : Grid → List Line
-pattern_lines g = flat (line_spelling cells_spelling) (rows_below g g.height)
+pattern_lines g = flat_map (line_spelling cells_spelling) (rows_below g g.height)

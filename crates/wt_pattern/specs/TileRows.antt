@@ -1,10 +1,11 @@
 -- Lists of tiles as text: a row of four names for each tile.
 use Rattle.std.specs.Prelude.{◌≡◌, ℕ, ◌≤◌, List, [], ◌∷◌, length, map, Result, Ok, Err}
+use Rattle.std.specs.List.{flat_map}
 use Rattle.wt_tile.specs.declared.tile.Tile.{Tile}
 use Rattle.wt_tile.specs.declared.tile.TileList.{TileList}
 use Rattle.wt_text.specs.Lines.{Line}
 use Rattle.wt_text.specs.Readers.{TextFault, one_line, many_parts, seen_as}
-use Rattle.wt_text.specs.Spellings.{AllFit, line_spelling, flat}
+use Rattle.wt_text.specs.Spellings.{AllFit, line_spelling}
 use Rattle.wt_names.specs.Rows.{Edges, NumberedTiles, with_numbers, with_names, row_form, row_spelling, RowFits}
 
 -- a row's four names: right, top, left, bottom
@@ -41,7 +42,7 @@ tile_rows count = seen_as rows_list (many_parts (λ s. row_part) no_state 0 coun
 
 -- how a list of tiles is written, row by row
 abbrev pub rows_spelling : TileList → List Line
-rows_spelling list = flat (λ e. line_spelling row_spelling (row_names e)) (list_rows list)
+rows_spelling list = flat_map (λ e. line_spelling row_spelling (row_names e)) (list_rows list)
 
 -- each name has the form of one, and the colours are numbered by first coming, with one name for each and no name twice
 pub record IsListed (list : TileList) : Type 0 where

@@ -1,5 +1,6 @@
 -- In the core of a valid rectangle each pair of neighbours is allowed.
 use Rattle.std.proofs.Common.{arith, ◌≡◌, ◌≤◌, ◌<◌, ◌+◌, ℕ, zero, suc, List, [], ◌∷◌, length, slice_get, Option, None, Some, Bool, true, false, ◌&&◌, ◌||◌, not, nat_eq, nat_le, nat_lt, refl, sym, ◌∙◌, ap, subst, inl, inr}
+use Rattle.std.specs.List.{find}
 use Rattle.wt_grid.specs.Axes.{axis_number}
 use Rattle.wt_grid.specs.declared.axis.Axis.TheVariants.{One, Two}
 use Rattle.wt_grid.specs.declared.axis.Axis.{Axis}
@@ -7,7 +8,7 @@ use Rattle.std.proofs.lemmas.Bool.Decides.{nat_tests}
 use Rattle.wt_tile.specs.Matching.{matches}
 use Rattle.wt_refute.specs.declared.tree.Refuted.{Refuted}
 use Rattle.wt_refute.specs.Refutes.{tree_fault}
-use Rattle.wt_grid.specs.Order.{find, leads, in_order, AllAbove, IsSplit}
+use Rattle.wt_grid.specs.Order.{leads, in_order, AllAbove, IsSplit}
 use Rattle.wt_grid.proofs.First.{none_from, count_none, count_some}
 use Rattle.wt_grid.proofs.Order.{both}
 use Rattle.wt_grid.specs.Grid.{Grid, at}

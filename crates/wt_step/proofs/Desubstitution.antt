@@ -1,5 +1,6 @@
 -- The law of desubstitution of a good step.
 use Rattle.std.proofs.Common.{arith, ◌≡◌, ◌≤◌, ◌++◌, ℕ, List, length, slice_get, Option, None, Some, option_map, true, nat_eq, refl, sym, ◌∙◌, ap, subst}
+use Rattle.std.specs.List.{list_all}
 use Rattle.wt_grid.specs.Axes.{other}
 use Rattle.wt_grid.specs.Images.{first_tile, last_tile}
 use Rattle.wt_grid.specs.declared.image.Image.TheVariants.{One as Single, Two as Double}
@@ -10,7 +11,6 @@ use Rattle.std.proofs.lemmas.Bool.Decides.{nat_tests}
 use Rattle.std.proofs.lemmas.Option.{slice_get-map}
 use Rattle.std.proofs.lemmas.List.{length-map}
 use Rattle.wt_tile.specs.Matching.{matches}
-use Rattle.wt_grid.specs.Order.{all_of}
 use Rattle.wt_grid.proofs.Order.{both}
 use Rattle.wt_grid.specs.Lines.{IsGood, IsImage}
 use Rattle.wt_grid.proofs.Coarse.{first, last, MatchAcross}
@@ -59,7 +59,7 @@ matched_pieces ts axis (Double a b) (Double c d) m = rw (m.0, m.1) refl
 
 module _ (s : RawStep) (g : GoodStep s) where
   pub count_images : length s.images ≡ length s.coarse.tiles
-  count_images = let e = (both (nat_eq (length s.images) (length s.coarse.tiles)) (all_of (image_fits (length s.fine.tiles)) s.images) g.shaped.images).0 in grind (arith, nat_tests, e)
+  count_images = let e = (both (nat_eq (length s.images) (length s.coarse.tiles)) (list_all (image_fits (length s.fine.tiles)) s.images) g.shaped.images).0 in grind (arith, nat_tests, e)
 
   -- coarse tiles match where their images do
   joined_images : (axis : Axis) (i j : ℕ) (x y : Image) → slice_get s.images i ≡ Some x → slice_get s.images j ≡ Some y → images_match s axis x y ≡ true → matches s.coarse.tiles axis i j ≡ true

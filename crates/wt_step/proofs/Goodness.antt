@@ -1,5 +1,6 @@
 -- A step without a fault is good, and a good step has no fault.
 use Rattle.std.proofs.Common.{arith, ◌≡◌, ◌≤◌, ◌<◌, ◌+◌, ℕ, zero, suc, List, [], ◌∷◌, length, take, Option, None, option_map, Bool, true, false, ◌&&◌, ◌||◌, not, nat_eq, nat_le, if◌then◌else◌, refl, sym, ◌∙◌, ap}
+use Rattle.std.specs.List.{list_any}
 use Rattle.wt_grid.specs.declared.image.Image.TheVariants.{One as Single, Two as Double}
 use Rattle.wt_grid.specs.declared.axis.Axis.TheVariants.{One, Two}
 use Rattle.wt_grid.specs.declared.axis.Axis.{Axis}
@@ -7,7 +8,7 @@ use Rattle.std.proofs.lemmas.Bool.Decides.{nat_tests}
 use Rattle.wt_tile.specs.Sets.{set_fault}
 use Rattle.wt_tile.specs.Matching.{matches}
 use Rattle.wt_grid.specs.First.{or_else, first_from}
-use Rattle.wt_grid.specs.Order.{has, first_in, agree}
+use Rattle.wt_grid.specs.Order.{first_in, agree}
 use Rattle.wt_grid.proofs.First.{neither, none_from}
 use Rattle.wt_grid.proofs.Order.{both}
 use Rattle.wt_step.specs.declared.raw.RawStep.{RawStep}
@@ -41,19 +42,19 @@ pair_of x y a b e f = cc
 same_pair : (a b : ℕ) (p : ℕ × ℕ) → is_pair a b p ≡ true → Path (ℕ × ℕ) p (a, b)
 same_pair a b p e = let g = is_pair_same a b p e in pair_of p.0 p.1 a b g.0 g.1
 
-none_at : {A : Type 0} (f : ℕ × ℕ → Option A) (ps : List (ℕ × ℕ)) → first_in f ps ≡ None → (a b : ℕ) → has (is_pair a b) ps ≡ true → f (a, b) ≡ None
+none_at : {A : Type 0} (f : ℕ × ℕ → Option A) (ps : List (ℕ × ℕ)) → first_in f ps ≡ None → (a b : ℕ) → list_any (is_pair a b) ps ≡ true → f (a, b) ≡ None
 none_at f [] e a b h = absurd (cc h)
 none_at f (p ∷ ps) e a b h = let n = neither (f p) (first_in f ps) e in go (is_pair a b p) refl n.0 (none_at f ps n.1 a b)
   where
-    go : (t : Bool) → is_pair a b p ≡ t → f p ≡ None → (has (is_pair a b) ps ≡ true → f (a, b) ≡ None) → f (a, b) ≡ None
+    go : (t : Bool) → is_pair a b p ≡ t → f p ≡ None → (list_any (is_pair a b) ps ≡ true → f (a, b) ≡ None) → f (a, b) ≡ None
     go true t n r = ap f (sym (same_pair a b p t)) ∙ n
     go false t n r = r (rw t at h)
 
-none_in : {A : Type 0} (f : ℕ × ℕ → Option A) (ps : List (ℕ × ℕ)) → ((a b : ℕ) → has (is_pair a b) ps ≡ true → f (a, b) ≡ None) → first_in f ps ≡ None
+none_in : {A : Type 0} (f : ℕ × ℕ → Option A) (ps : List (ℕ × ℕ)) → ((a b : ℕ) → list_any (is_pair a b) ps ≡ true → f (a, b) ≡ None) → first_in f ps ≡ None
 none_in f [] h = refl
 none_in f (p ∷ ps) h =
     none_both (f p) (first_in f ps) (h p.0 p.1 (rw (is_pair_itself p) refl))
-    (none_in f ps (λ a b m. h a b (or_right (is_pair a b p) (has (is_pair a b) ps) m)))
+    (none_in f ps (λ a b m. h a b (or_right (is_pair a b p) (list_any (is_pair a b) ps) m)))
   where
     or_right : (x y : Bool) → y ≡ true → (x || y) ≡ true
     or_right true y e = refl
@@ -120,8 +121,8 @@ module _ (s : RawStep) where
         neither (unless (is_named_well s axis a b) (Pair axis a b)) (if is_barred s axis a b then trees_fault s axis a b else None)
         (pair_good axis (by_axis (λ x. pairs_fault s x ≡ None) p1.0 p2.0 axis) a b la lb) in
         let image = λ (i : ℕ) (li : i < length s.images).
-        both (is_good_image s (image_at s i)) (not (has (same_image (image_at s i)) (take i s.images)))
-        (holds (is_good_image s (image_at s i) && not (has (same_image (image_at s i)) (take i s.images))) (BadImage i)
+        both (is_good_image s (image_at s i)) (not (list_any (same_image (image_at s i)) (take i s.images)))
+        (holds (is_good_image s (image_at s i) && not (list_any (same_image (image_at s i)) (take i s.images))) (BadImage i)
         (none_from (image_fault_at s) 0 (length s.images) i im.0 (omega arith) (omega arith))) in
         record {
           shaped = shaped s n;
@@ -130,12 +131,12 @@ module _ (s : RawStep) where
           marked = λ axis a b h. holds (is_marked_well s axis a b) (Marker axis a b)
               (none_at (marker_fault_at s axis) (allowed s axis) (by_axis (λ x. marker_fault s x ≡ None) m1.0 m2.0 axis) a b h);
           images = λ i li. (image i li).0;
-          distinct = λ i li. not_true (has (same_image (image_at s i)) (take i s.images)) (image i li).1;
-          has_tiles = λ u lu h. implied (is_demanded s u) (has (same_image (Single u)) s.images)
-              (holds (not (is_demanded s u) || has (same_image (Single u)) s.images) (MissingTile u)
+          distinct = λ i li. not_true (list_any (same_image (image_at s i)) (take i s.images)) (image i li).1;
+          has_tiles = λ u lu h. implied (is_demanded s u) (list_any (same_image (Single u)) s.images)
+              (holds (not (is_demanded s u) || list_any (same_image (Single u)) s.images) (MissingTile u)
               (none_from (missing_tile_at s) 0 (length s.fine.tiles) u mt.0 (omega arith) (omega arith))) h;
-          has_pairs = λ a b h k. implied (is_block s a b) (has (same_image (Double a b)) s.images)
-              (holds (not (is_block s a b) || has (same_image (Double a b)) s.images) (MissingPair a b)
+          has_pairs = λ a b h k. implied (is_block s a b) (list_any (same_image (Double a b)) s.images)
+              (holds (not (is_block s a b) || list_any (same_image (Double a b)) s.images) (MissingPair a b)
               (none_at (missing_pair_at s) (allowed s s.axis) mp.0 a b h)) k;
           joins = λ axis i j li lj. agreed (matches s.coarse.tiles axis i j) (images_match s axis (image_at s i) (image_at s j))
               (holds (agree (matches s.coarse.tiles axis i j) (images_match s axis (image_at s i) (image_at s j))) (Join axis i j)
@@ -172,18 +173,18 @@ module _ (s : RawStep) (g : GoodStep s) where
 
   no_image : image_fault s ≡ None
   no_image = all_none (image_fault_at s) 0 (length s.images) (λ i lo li.
-      fits (is_good_image s (image_at s i) && not (has (same_image (image_at s i)) (take i s.images))) (BadImage i)
+      fits (is_good_image s (image_at s i) && not (list_any (same_image (image_at s i)) (take i s.images))) (BadImage i)
       (rw (g.images i (omega arith), g.distinct i (omega arith)) refl))
 
   no_tile : missing_tile s ≡ None
   no_tile = all_none (missing_tile_at s) 0 (length s.fine.tiles) (λ u lo lu.
-      fits (not (is_demanded s u) || has (same_image (Single u)) s.images) (MissingTile u)
-      (implies (is_demanded s u) (has (same_image (Single u)) s.images) (λ h. g.has_tiles u (omega arith) h)))
+      fits (not (is_demanded s u) || list_any (same_image (Single u)) s.images) (MissingTile u)
+      (implies (is_demanded s u) (list_any (same_image (Single u)) s.images) (λ h. g.has_tiles u (omega arith) h)))
 
   no_block : missing_pair s ≡ None
   no_block = none_in (missing_pair_at s) (allowed s s.axis) (λ a b h.
-      fits (not (is_block s a b) || has (same_image (Double a b)) s.images) (MissingPair a b)
-      (implies (is_block s a b) (has (same_image (Double a b)) s.images) (λ k. g.has_pairs a b h k)))
+      fits (not (is_block s a b) || list_any (same_image (Double a b)) s.images) (MissingPair a b)
+      (implies (is_block s a b) (list_any (same_image (Double a b)) s.images) (λ k. g.has_pairs a b h k)))
 
   no_join : (axis : Axis) → join_fault s axis ≡ None
   no_join axis = all_none (join_row s axis) 0 (length s.coarse.tiles) (λ i lo li. all_none (join_fault_at s axis i) 0 (length s.coarse.tiles) (λ j lo' lj.

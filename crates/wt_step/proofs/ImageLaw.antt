@@ -1,5 +1,6 @@
 -- Each valid coarse pattern of a good step has an image, and that is valid.
 use Rattle.std.proofs.Common.{arith, ◌≡◌, ◌<◌, ℕ, zero, suc, List, [], ◌∷◌, length, get_or, Bool, true, false, ◌&&◌, ◌||◌, not, nat_eq, nat_lt, if◌then◌else◌, refl, sym, ◌∙◌, ap, subst}
+use Rattle.std.specs.List.{list_all}
 use Rattle.wt_grid.specs.Axes.{other}
 use Rattle.wt_grid.specs.declared.image.Image.TheVariants.{One as Single, Two as Double}
 use Rattle.wt_grid.specs.declared.image.Image.{Image}
@@ -9,7 +10,6 @@ use Rattle.std.proofs.lemmas.List.{length-map}
 use Rattle.std.proofs.Math.ListN.{get_or-map}
 use Rattle.wt_tile.specs.Matching.{matches}
 use Rattle.wt_pattern.specs.Patterns.{IsPattern}
-use Rattle.wt_grid.specs.Order.{all_of}
 use Rattle.wt_grid.proofs.Order.{both}
 use Rattle.wt_grid.specs.Lines.{IsImage}
 use Rattle.wt_grid.specs.Grid.{Grid, lines}
@@ -27,11 +27,11 @@ use Rattle.wt_step.specs.Meaning.{pieces}
 use Rattle.wt_step.proofs.Tables.{same_itself, not_other, in_range}
 use Rattle.wt_step.proofs.Desubstitution.{tile_grid, tile_other, count_images}
 
-fit_at : (n : ℕ) (xs : List Image) (i : ℕ) → all_of (image_fits n) xs ≡ true → i < length xs → image_fits n (get_or xs i (Single 0)) ≡ true
+fit_at : (n : ℕ) (xs : List Image) (i : ℕ) → list_all (image_fits n) xs ≡ true → i < length xs → image_fits n (get_or xs i (Single 0)) ≡ true
 fit_at n [] i h lt = absurd (omega arith)
 fit_at n (x ∷ xs) i h lt = elim i as (λ k. k < length (x ∷ xs) → image_fits n (get_or (x ∷ xs) k (Single 0)) ≡ true) [
-  | zero ↦ λ l. (both (image_fits n x) (all_of (image_fits n) xs) h).0
-  | suc k ↦ λ l. fit_at n xs k (both (image_fits n x) (all_of (image_fits n) xs) h).1 (omega arith)
+  | zero ↦ λ l. (both (image_fits n x) (list_all (image_fits n) xs) h).0
+  | suc k ↦ λ l. fit_at n xs k (both (image_fits n x) (list_all (image_fits n) xs) h).1 (omega arith)
 ] lt
 
 fit_below : (n : ℕ) (x : Image) → image_fits n x ≡ true → PieceBelow n (piece x)
@@ -102,7 +102,7 @@ module _ (s : RawStep) (g : GoodStep s) where
   tiles : (i : ℕ) → i < length (pieces s) → PieceBelow (length s.fine.tiles) (piece_at (pieces s) i)
   tiles i li =
       let n = images_long in
-      let f = (both (nat_eq (length s.images) (length s.coarse.tiles)) (all_of (image_fits (length s.fine.tiles)) s.images) g.shaped.images).1 in
+      let f = (both (nat_eq (length s.images) (length s.coarse.tiles)) (list_all (image_fits (length s.fine.tiles)) s.images) g.shaped.images).1 in
       subst (λ (x : Image). PieceBelow (length s.fine.tiles) x) (sym (at_piece i)) (fit_below (length s.fine.tiles) (image_at s i) (fit_at (length s.fine.tiles) s.images i f (omega arith)))
 
   pub image_valid : (q : Grid) → IsPattern s.coarse.tiles q

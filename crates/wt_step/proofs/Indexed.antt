@@ -1,5 +1,6 @@
 -- Lists with the numbers of images noted at their tiles.
 use Rattle.std.proofs.Common.{arith, ◌≡◌, ◌≤◌, ◌<◌, ◌+◌, ◌*◌, ◌/◌, ◌%◌, ℕ, zero, suc, List, [], ◌∷◌, length, get_or, set, slice_get, slice_index_or, Some, Bool, true, nat_eq, nat_lt, refl, sym, ◌∙◌, ap, subst, inl, inr}
+use Rattle.std.specs.List.{list_all}
 use Rattle.wt_grid.specs.declared.image.Image.TheVariants.{One as Single, Two as Double}
 use Rattle.wt_grid.specs.declared.image.Image.{Image}
 use Rattle.std.proofs.lemmas.Bool.{cases_lt}
@@ -7,7 +8,6 @@ use Rattle.std.proofs.lemmas.Bool.Decides.{nat_tests}
 use Rattle.std.proofs.lemmas.List.{get_or-set_same, get_or-set_other, length-set}
 use Rattle.std.proofs.lemmas.Nat.{div-mul-add, mod-mul-add, mul-add-lt}
 use Rattle.wt_tile.proofs.Sizes.{few_tiles}
-use Rattle.wt_grid.specs.Order.{all_of}
 use Rattle.wt_grid.proofs.Order.{both}
 use Rattle.wt_step.specs.declared.raw.RawStep.{RawStep}
 use Rattle.wt_step.specs.Words.{image_fits, image_at}
@@ -20,10 +20,10 @@ at_place [] i d lt = absurd (omega arith)
 at_place (x ∷ xs) zero d lt = refl
 at_place (x ∷ xs) (suc i) d lt = at_place xs i d (omega arith)
 
-each_of : {A : Type 0} (p : A → Bool) (xs : List A) (i : ℕ) (d : A) → all_of p xs ≡ true → i < length xs → p (slice_index_or xs i d) ≡ true
+each_of : {A : Type 0} (p : A → Bool) (xs : List A) (i : ℕ) (d : A) → list_all p xs ≡ true → i < length xs → p (slice_index_or xs i d) ≡ true
 each_of p [] i d e lt = absurd (omega arith)
-each_of p (x ∷ xs) zero d e lt = (both (p x) (all_of p xs) e).0
-each_of p (x ∷ xs) (suc i) d e lt = each_of p xs i d (both (p x) (all_of p xs) e).1 (omega arith)
+each_of p (x ∷ xs) zero d e lt = (both (p x) (list_all p xs) e).0
+each_of p (x ∷ xs) (suc i) d e lt = each_of p xs i d (both (p x) (list_all p xs) e).1 (omega arith)
 
 less : (a n : ℕ) → nat_lt a n ≡ true → a < n
 less a n e = grind (arith, nat_tests, e)
@@ -37,7 +37,7 @@ same_place n a b c d lb ld e = (
 
 pub good_sizes : (s : RawStep) → GoodStep s → (length s.fine.tiles ≤ 256) × (length s.images ≤ 256) × (length s.images ≡ length s.coarse.tiles)
 good_sizes s g =
-    let e = (both (nat_eq (length s.images) (length s.coarse.tiles)) (all_of (image_fits (length s.fine.tiles)) s.images) g.shaped.images).0 in
+    let e = (both (nat_eq (length s.images) (length s.coarse.tiles)) (list_all (image_fits (length s.fine.tiles)) s.images) g.shaped.images).0 in
     let same : length s.images ≡ length s.coarse.tiles = grind (arith, nat_tests, e) in
     let f = few_tiles s.fine g.shaped.fine in
     let c = few_tiles s.coarse g.shaped.coarse in
@@ -45,7 +45,7 @@ good_sizes s g =
     (f.1, omega arith, same)
 
 pub fits_at : (s : RawStep) → GoodStep s → (i : ℕ) → i < length s.images → image_fits (length s.fine.tiles) (image_at s i) ≡ true
-fits_at s g i lt = each_of (image_fits (length s.fine.tiles)) s.images i (Single 0) (both (nat_eq (length s.images) (length s.coarse.tiles)) (all_of (image_fits (length s.fine.tiles)) s.images) g.shaped.images).1 lt
+fits_at s g i lt = each_of (image_fits (length s.fine.tiles)) s.images i (Single 0) (both (nat_eq (length s.images) (length s.coarse.tiles)) (list_all (image_fits (length s.fine.tiles)) s.images) g.shaped.images).1 lt
 
 module _ (s : RawStep) (g : GoodStep s) (k : ℕ) (lk : k < length s.images) (singles pairs : List ℕ) (h : IsIndexed s.images (length s.fine.tiles) k singles pairs) where
   fitting : (i : ℕ) (x : Image) → slice_get s.images i ≡ Some x → image_fits (length s.fine.tiles) x ≡ true

@@ -1,9 +1,10 @@
 -- What a walk along a list in strict order sees of it at its place.
 use Rattle.std.proofs.Common.{arith, ◌≡◌, ◌<◌, ◌≤◌, ◌+◌, ℕ, zero, suc, List, [], ◌∷◌, length, get_or, Bool, true, false, ◌&&◌, ◌||◌, nat_eq, nat_lt, nat_le, if◌then◌else◌, Some, None, is_some, refl, sym, ◌∙◌, ap, inl, inr}
+use Rattle.std.specs.List.{list_any, find}
 use Rattle.wt_grid.specs.Axes.{axis_number}
 use Rattle.wt_grid.specs.declared.axis.Axis.{Axis}
 use Rattle.std.proofs.lemmas.Bool.Decides.{nat_tests}
-use Rattle.wt_grid.specs.Order.{in_order, leads, has, find, AllAbove, IsSplit}
+use Rattle.wt_grid.specs.Order.{in_order, leads, AllAbove, IsSplit}
 use Rattle.wt_grid.specs.Pairs.{pair_before, is_pair, pairs_follow, pair_fits}
 use Rattle.wt_grid.proofs.Keys.{first_by, by_cases, by_less, pairs_split}
 use Rattle.wt_grid.proofs.Order.{both, has_found, above_none}
@@ -45,27 +46,27 @@ module _ {A : Type 0} (low hit : A → Bool) where
   some_if true x = refl
   some_if false x = refl
 
-  pub has_at : (xs : List A) (d : A) → IsSplit low hit xs → passed low xs < length xs → has hit xs ≡ hit (get_or xs (passed low xs) d)
+  pub has_at : (xs : List A) (d : A) → IsSplit low hit xs → passed low xs < length xs → list_any hit xs ≡ hit (get_or xs (passed low xs) d)
   has_at xs d s lt = has_found hit xs ∙ (ap is_some (hit_at xs d s lt) ∙ some_if (hit (get_or xs (passed low xs) d)) _)
 
-  pub has_none : (xs : List A) → IsSplit low hit xs → length xs ≤ passed low xs → has hit xs ≡ false
+  pub has_none : (xs : List A) → IsSplit low hit xs → length xs ≤ passed low xs → list_any hit xs ≡ false
   has_none xs s le = has_found hit xs ∙ ap is_some (miss_at xs s le)
 
   -- where one has the key, the place is within the list
-  pub hit_within : (xs : List A) → IsSplit low hit xs → has hit xs ≡ true → passed low xs < length xs
+  pub hit_within : (xs : List A) → IsSplit low hit xs → list_any hit xs ≡ true → passed low xs < length xs
   hit_within [] s e = absurd cc
   hit_within (x ∷ xs) s e = elim s [
     | inl l ↦ let r = hit_within xs l.2 (rw l.1 at e) in rw l.0 (omega arith)
     | inr r ↦ rw r.0 (omega arith)
   ]
 
-  pub found_at : (xs : List A) (d : A) → IsSplit low hit xs → has hit xs ≡ true → find hit xs ≡ Some (get_or xs (passed low xs) d)
+  pub found_at : (xs : List A) (d : A) → IsSplit low hit xs → list_any hit xs ≡ true → find hit xs ≡ Some (get_or xs (passed low xs) d)
   found_at xs d s e =
       let lt = hit_within xs s e in
       let h : hit (get_or xs (passed low xs) d) ≡ true = sym (has_at xs d s lt) ∙ e in
       hit_at xs d s lt ∙ rw h refl
 
-  above_has : (xs : List A) → AllAbove low hit xs → has hit xs ≡ false
+  above_has : (xs : List A) → AllAbove low hit xs → list_any hit xs ≡ false
   above_has [] h = refl
   above_has (x ∷ xs) h = rw h.1 (above_has xs h.2)
 
@@ -79,17 +80,17 @@ module _ {A : Type 0} (low hit : A → Bool) where
     more false n = refl
 
     -- the place at the next key is one further where an element has this one
-    pub passed_next : (xs : List A) → IsSplit low hit xs → passed next xs ≡ (if has hit xs then suc (passed low xs) else passed low xs)
+    pub passed_next : (xs : List A) → IsSplit low hit xs → passed next xs ≡ (if list_any hit xs then suc (passed low xs) else passed low xs)
     passed_next [] s = refl
     passed_next (x ∷ xs) s = elim s [
       | inl l ↦
           let e : next x ≡ true = after x ∙ rw l.0 refl in
-          rw (e, l.0, l.1) (ap suc (passed_next xs l.2) ∙ more (has hit xs) (passed low xs))
+          rw (e, l.0, l.1) (ap suc (passed_next xs l.2) ∙ more (list_any hit xs) (passed low xs))
       | inr r ↦ at_first (hit x) refl r.0 (above_has xs r.1) (above_next xs r.1)
     ]
       where
-        at_first : (b : Bool) → hit x ≡ b → low x ≡ false → has hit xs ≡ false → passed next xs ≡ 0
-            → passed next (x ∷ xs) ≡ (if has hit (x ∷ xs) then suc (passed low (x ∷ xs)) else passed low (x ∷ xs))
+        at_first : (b : Bool) → hit x ≡ b → low x ≡ false → list_any hit xs ≡ false → passed next xs ≡ 0
+            → passed next (x ∷ xs) ≡ (if list_any hit (x ∷ xs) then suc (passed low (x ∷ xs)) else passed low (x ∷ xs))
         at_first true h l m n = let e : next x ≡ true = after x ∙ rw (l, h) refl in rw (e, h, l, n) refl
         at_first false h l m n = let e : next x ≡ false = after x ∙ rw (l, h) refl in rw (e, h, l, m) refl
 
@@ -271,7 +272,7 @@ module _ (s : RawStep) (h : IsShaped s) (axis : Axis) (a b : ℕ) where
         → is_some (entry_at s axis a b radius) ≡ false
     refuted_past entries place e p le = ap is_some (miss_at (entry_before radius axis a b) (is_entry radius axis a b) s.refuted (refuted_split radius) (rw (e, p) at le))
 
-    is_refuted : is_some (entry_at s axis a b radius) ≡ true → has (is_entry radius axis a b) s.refuted ≡ true
+    is_refuted : is_some (entry_at s axis a b radius) ≡ true → list_any (is_entry radius axis a b) s.refuted ≡ true
     is_refuted e = has_found (is_entry radius axis a b) s.refuted ∙ e
 
     pub refuted_within : (entries : List Refuted) (place : ℕ) → entries ≡ s.refuted → place ≡ refuted_place s axis a b radius → is_some (entry_at s axis a b radius) ≡ true

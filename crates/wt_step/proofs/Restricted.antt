@@ -1,5 +1,6 @@
 -- Good restrict steps, and what they make of valid rectangles.
 use Rattle.std.proofs.Common.{arith, ◌≡◌, ◌≤◌, ◌<◌, ℕ, zero, suc, List, [], ◌∷◌, length, map, slice_get, Option, None, Some, option_map, Bool, true, false, not, nat_eq, nat_lt, nat_le, refl, sym, ◌∙◌, ap, subst, inl}
+use Rattle.std.specs.List.{list_any}
 use Rattle.wt_grid.specs.declared.image.Image.TheVariants.{One as Single, Two as Double}
 use Rattle.wt_grid.specs.declared.image.Image.{Image}
 use Rattle.wt_grid.specs.declared.axis.Axis.TheVariants.{One, Two}
@@ -11,7 +12,7 @@ use Rattle.wt_tile.specs.Sets.{set_fault}
 use Rattle.wt_tile.specs.Matching.{matches}
 use Rattle.wt_refute.specs.Refutes.{tile_tree_fault}
 use Rattle.wt_refute.proofs.Faults.{absent}
-use Rattle.wt_grid.specs.Order.{in_order, has, first_in, agree, follows, is_below, IsSplit}
+use Rattle.wt_grid.specs.Order.{in_order, first_in, agree, follows, is_below, IsSplit}
 use Rattle.wt_grid.proofs.First.{neither, none_from}
 use Rattle.wt_grid.proofs.Order.{both, split}
 use Rattle.wt_grid.specs.Lines.{Table, IsGood, Singles, IsImage}
@@ -98,21 +99,21 @@ module _ (s : RawRestrict) (g : GoodRestrict s) where
 -- Lines of kept tiles.
 abbrev AllKept : List ℕ → List ℕ → Type 0
 AllKept kept [] = Unit {0}
-AllKept kept (a ∷ as') = (has (nat_eq a) kept ≡ true) × AllKept kept as'
+AllKept kept (a ∷ as') = (list_any (nat_eq a) kept ≡ true) × AllKept kept as'
 
 abbrev AllLinesKept : List ℕ → List (List ℕ) → Type 0
 AllLinesKept kept [] = Unit {0}
 AllLinesKept kept (u ∷ ls) = AllKept kept u × AllLinesKept kept ls
 
-kept_line : (kept : List ℕ) (n : ℕ) (f : ℕ → ℕ) → ((j : ℕ) → j < n → has (nat_eq (f j)) kept ≡ true) → AllKept kept (listed n f)
+kept_line : (kept : List ℕ) (n : ℕ) (f : ℕ → ℕ) → ((j : ℕ) → j < n → list_any (nat_eq (f j)) kept ≡ true) → AllKept kept (listed n f)
 kept_line kept zero f h = tt
 kept_line kept (suc n) f h = (h 0 (omega arith), kept_line kept n (λ j. f (suc j)) (λ j lt. h (suc j) (omega arith)))
 
-kept_lines : (kept : List ℕ) (n m : ℕ) (f : ℕ → ℕ → ℕ) → ((i j : ℕ) → i < n → j < m → has (nat_eq (f i j)) kept ≡ true) → AllLinesKept kept (listed n (λ i. listed m (f i)))
+kept_lines : (kept : List ℕ) (n m : ℕ) (f : ℕ → ℕ → ℕ) → ((i j : ℕ) → i < n → j < m → list_any (nat_eq (f i j)) kept ≡ true) → AllLinesKept kept (listed n (λ i. listed m (f i)))
 kept_lines kept zero m f h = tt
 kept_lines kept (suc n) m f h = (kept_line kept m (f 0) (λ j lt. h 0 j (omega arith) lt), kept_lines kept n m (λ i. f (suc i)) (λ i j li lj. h (suc i) j (omega arith) lj))
 
-pub kept_place : (kept : List ℕ) (a : ℕ) → has (nat_eq a) kept ≡ true → (i : ℕ) × (slice_get kept i ≡ Some a)
+pub kept_place : (kept : List ℕ) (a : ℕ) → list_any (nat_eq a) kept ≡ true → (i : ℕ) × (slice_get kept i ≡ Some a)
 kept_place kept a h =
     let r = has_some (nat_eq a) kept h in
     let same : r.1 ≡ a = (let e = r.3 in grind (arith, nat_tests, e)) in

@@ -1,5 +1,6 @@
 -- What a good step allows is a good table of lines.
 use Rattle.std.proofs.Common.{arith, ◌≡◌, ◌<◌, ℕ, zero, suc, List, [], ◌∷◌, length, take, map, slice_get, slice_index_or, Option, None, Some, option_map, Bool, true, false, ◌&&◌, ◌||◌, not, nat_eq, nat_lt, refl, sym, ◌∙◌, ap, subst, inl, inr}
+use Rattle.std.specs.List.{list_any}
 use Rattle.wt_grid.specs.Axes.{same_axis, other}
 use Rattle.wt_grid.specs.declared.image.Image.TheVariants.{One as Single, Two as Double}
 use Rattle.wt_grid.specs.declared.image.Image.{Image}
@@ -10,7 +11,7 @@ use Rattle.wt_grid.specs.declared.axis.Axis.{Axis}
 use Rattle.std.proofs.lemmas.Bool.Decides.{nat_tests}
 use Rattle.std.proofs.lemmas.Bool.{cases_lt}
 use Rattle.std.proofs.lemmas.Option.{slice_get-map}
-use Rattle.wt_grid.specs.Order.{has, in_order, agree}
+use Rattle.wt_grid.specs.Order.{in_order, agree}
 use Rattle.wt_grid.proofs.Order.{both}
 use Rattle.wt_grid.specs.Lines.{IsGood}
 use Rattle.wt_grid.specs.Cuts.{flip, table}
@@ -38,15 +39,15 @@ some_of [] i x d e = absurd (cc e)
 some_of (y ∷ xs) zero x d e = (omega arith, (let f : Some y ≡ Some x = e in cc))
 some_of (y ∷ xs) (suc i) x d e = let r = some_of xs i x d e in (omega arith, r.1)
 
-pub has_some : {A : Type 0} (p : A → Bool) (xs : List A) → has p xs ≡ true → (i : ℕ) × (x : A) × (slice_get xs i ≡ Some x) × (p x ≡ true)
+pub has_some : {A : Type 0} (p : A → Bool) (xs : List A) → list_any p xs ≡ true → (i : ℕ) × (x : A) × (slice_get xs i ≡ Some x) × (p x ≡ true)
 has_some p [] h = absurd (cc h)
 has_some p (x ∷ xs) h = go (p x) refl (has_some p xs)
   where
-    go : (t : Bool) → p x ≡ t → (has p xs ≡ true → (i : ℕ) × (y : _) × (slice_get xs i ≡ Some y) × (p y ≡ true)) → (i : ℕ) × (y : _) × (slice_get (x ∷ xs) i ≡ Some y) × (p y ≡ true)
+    go : (t : Bool) → p x ≡ t → (list_any p xs ≡ true → (i : ℕ) × (y : _) × (slice_get xs i ≡ Some y) × (p y ≡ true)) → (i : ℕ) × (y : _) × (slice_get (x ∷ xs) i ≡ Some y) × (p y ≡ true)
     go true t r = (0, x, refl, t)
     go false t r = let q = r (rw t at h) in (suc q.0, q.1, q.2, q.3)
 
-has_more : {A : Type 0} (p q : A → Bool) (xs : List A) → ((x : A) → p x ≡ true → q x ≡ true) → has p xs ≡ true → has q xs ≡ true
+has_more : {A : Type 0} (p q : A → Bool) (xs : List A) → ((x : A) → p x ≡ true → q x ≡ true) → list_any p xs ≡ true → list_any q xs ≡ true
 has_more p q [] m h = absurd (cc h)
 has_more p q (x ∷ xs) m h = go (p x) refl (has_more p q xs m)
   where
@@ -54,28 +55,28 @@ has_more p q (x ∷ xs) m h = go (p x) refl (has_more p q xs m)
     either true b e = refl
     either false b e = e
 
-    go : (t : Bool) → p x ≡ t → (has p xs ≡ true → has q xs ≡ true) → has q (x ∷ xs) ≡ true
+    go : (t : Bool) → p x ≡ t → (list_any p xs ≡ true → list_any q xs ≡ true) → list_any q (x ∷ xs) ≡ true
     go true t r = rw (m x t) refl
-    go false t r = either (q x) (has q xs) (r (rw t at h))
+    go false t r = either (q x) (list_any q xs) (r (rw t at h))
 
-has_before : {A : Type 0} (p : A → Bool) (xs : List A) (i j : ℕ) (x : A) → slice_get xs i ≡ Some x → i < j → p x ≡ true → has p (take j xs) ≡ true
+has_before : {A : Type 0} (p : A → Bool) (xs : List A) (i j : ℕ) (x : A) → slice_get xs i ≡ Some x → i < j → p x ≡ true → list_any p (take j xs) ≡ true
 has_before p [] i j x e lt h = absurd (cc e)
 has_before p (y ∷ xs) i zero x e lt h = absurd (omega arith)
 has_before p (y ∷ xs) zero (suc j) x e lt h = let f : Some y ≡ Some x = e in let k : y ≡ x = cc in rw (k, h) refl
-has_before p (y ∷ xs) (suc i) (suc j) x e lt h = either (p y) (has p (take j xs)) (has_before p xs i j x e (omega arith) h)
+has_before p (y ∷ xs) (suc i) (suc j) x e lt h = either (p y) (list_any p (take j xs)) (has_before p xs i j x e (omega arith) h)
   where
     either : (a b : Bool) → b ≡ true → (a || b) ≡ true
     either true b e = refl
     either false b e = e
 
-fits_at : (n : ℕ) (ps : List (ℕ × ℕ)) (a b : ℕ) → in_order (pair_fits n) pairs_follow ps ≡ true → has (is_pair a b) ps ≡ true → (a < n) × (b < n)
+fits_at : (n : ℕ) (ps : List (ℕ × ℕ)) (a b : ℕ) → in_order (pair_fits n) pairs_follow ps ≡ true → list_any (is_pair a b) ps ≡ true → (a < n) × (b < n)
 fits_at n [] a b o h = absurd (cc h)
 fits_at n (p ∷ ps) a b o h =
     let k = both _ _ (both _ _ o).0 in
     let f = both (nat_lt p.0 n) (nat_lt p.1 n) k.0 in
     go (is_pair a b p) refl (fits_at n ps a b (both _ _ o).1) f.0 f.1
   where
-    go : (t : Bool) → is_pair a b p ≡ t → (has (is_pair a b) ps ≡ true → (a < n) × (b < n)) → nat_lt p.0 n ≡ true → nat_lt p.1 n ≡ true → (a < n) × (b < n)
+    go : (t : Bool) → is_pair a b p ≡ t → (list_any (is_pair a b) ps ≡ true → (a < n) × (b < n)) → nat_lt p.0 n ≡ true → nat_lt p.1 n ≡ true → (a < n) × (b < n)
     go true t r f g = let e = is_pair_same a b p t in let x = e.0 in let y = e.1 in (grind (arith, nat_tests, f, x), grind (arith, nat_tests, g, y))
     go false t r f g = r (rw t at h)
 
@@ -129,7 +130,7 @@ module _ (s : RawStep) (g : GoodStep s) where
   once i j x e f lt =
       let r = some_of s.images j x (Single 0) f in
       let d = g.distinct j r.0 in
-      let P : Image → Type 0 = λ y. has (same_image y) (take j s.images) ≡ false in
+      let P : Image → Type 0 = λ y. list_any (same_image y) (take j s.images) ≡ false in
       let d' = subst P r.1 d in
       let h = has_before (same_image x) s.images i j x e lt (same_image_itself x) in cc
 
@@ -152,7 +153,7 @@ module _ (s : RawStep) (g : GoodStep s) where
   placed : (x : Image) (y : Image) (i : ℕ) (p : Image) → slice_get s.images i ≡ Some y → y ≡ x → piece x ≡ p → slice_get (pieces s) i ≡ Some p
   placed x y i p e f h = slice_get-map piece s.images i ∙ (rw (e, f, h) refl)
 
-  tile_image : (u : ℕ) → u < length s.fine.tiles → is_marker s u ≡ false → has (demands s u) (allowed s s.axis) ≡ true → (i : ℕ) × (slice_get (pieces s) i ≡ Some (Single u))
+  tile_image : (u : ℕ) → u < length s.fine.tiles → is_marker s u ≡ false → list_any (demands s u) (allowed s s.axis) ≡ true → (i : ℕ) × (slice_get (pieces s) i ≡ Some (Single u))
   tile_image u lt m h =
       let d : is_demanded s u ≡ true = rw (m, h) refl in
       let r = has_some (same_image (Single u)) s.images (g.has_tiles u lt d) in
@@ -164,14 +165,14 @@ module _ (s : RawStep) (g : GoodStep s) where
       (r.0, placed (Double a b) r.1 r.0 (Double a b) r.2 (is_double a b r.1 r.3) refl)
 
   -- the pair makes its first tile an image (after), or its second (before)
-  demand_first : (a b : ℕ) → s.side ≡ After → allows s s.axis a b ≡ true → is_marker s b ≡ false → has (demands s a) (allowed s s.axis) ≡ true
+  demand_first : (a b : ℕ) → s.side ≡ After → allows s s.axis a b ≡ true → is_marker s b ≡ false → list_any (demands s a) (allowed s s.axis) ≡ true
   demand_first a b e h n = has_more (is_pair a b) (demands s a) (allowed s s.axis) (λ p k.
       let f = is_pair_same a b p k in let x = f.0 in
       let q : nat_eq p.0 a ≡ true = grind (arith, nat_tests, x) in
       let n' : is_marker s p.1 ≡ false = ap (is_marker s) f.1 ∙ n in
       rw e (rw (q, n') refl)) h
 
-  demand_second : (a b : ℕ) → s.side ≡ Before → allows s s.axis a b ≡ true → is_marker s a ≡ false → has (demands s b) (allowed s s.axis) ≡ true
+  demand_second : (a b : ℕ) → s.side ≡ Before → allows s s.axis a b ≡ true → is_marker s a ≡ false → list_any (demands s b) (allowed s s.axis) ≡ true
   demand_second a b e h n = has_more (is_pair a b) (demands s b) (allowed s s.axis) (λ p k.
       let f = is_pair_same a b p k in let x = f.1 in
       let q : nat_eq p.1 b ≡ true = grind (arith, nat_tests, x) in

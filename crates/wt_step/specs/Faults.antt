@@ -1,5 +1,6 @@
 -- The first fault of a step.
 use Rattle.std.specs.Prelude.{ℕ, ◌+◌, ◌≡◌, ◌≤◌, length, take, Option, None, Some, Bool, true, ◌&&◌, ◌||◌, not, nat_eq, nat_lt, nat_le, if◌then◌else◌, option_map}
+use Rattle.std.specs.List.{list_any, list_all}
 use Rattle.wt_grid.specs.Axes.{same_axis}
 use Rattle.wt_grid.specs.declared.image.Image.TheVariants.{One as Single, Two as Double}
 use Rattle.wt_grid.specs.declared.image.Image.{Image}
@@ -16,7 +17,7 @@ use Rattle.wt_step.specs.Words.{entry_fits, image_fits, same_image, allowed, all
 use Rattle.wt_refute.specs.Entries.{entries_follow}
 use Rattle.wt_grid.specs.Pairs.{pairs_follow, pair_fits}
 use Rattle.wt_grid.specs.First.{or_else, first_from}
-use Rattle.wt_grid.specs.Order.{in_order, all_of, has, first_in, is_below, follows, agree}
+use Rattle.wt_grid.specs.Order.{in_order, first_in, is_below, follows, agree}
 
 abbrev pub unless : Bool → StepFault → Option StepFault
 unless ok fault = if ok then None else Some fault
@@ -33,7 +34,7 @@ abbrev pub refuted_fit : RawStep → Bool
 refuted_fit s = in_order (entry_fits s.radius (length s.fine.tiles)) entries_follow s.refuted
 
 abbrev pub images_fit : RawStep → Bool
-images_fit s = nat_eq (length s.images) (length s.coarse.tiles) && all_of (image_fits (length s.fine.tiles)) s.images
+images_fit s = nat_eq (length s.images) (length s.coarse.tiles) && list_all (image_fits (length s.fine.tiles)) s.images
 
 unfoldable pub shape_fault : RawStep → Option StepFault
 shape_fault s =
@@ -95,7 +96,7 @@ is_good_image s (Single a) = not (is_marker s a)
 is_good_image s (Double a b) = allows s s.axis a b && is_block s a b
 
 abbrev pub image_fault_at : RawStep → ℕ → Option StepFault
-image_fault_at s i = unless (is_good_image s (image_at s i) && not (has (same_image (image_at s i)) (take i s.images))) (BadImage i)
+image_fault_at s i = unless (is_good_image s (image_at s i) && not (list_any (same_image (image_at s i)) (take i s.images))) (BadImage i)
 
 abbrev pub image_fault : RawStep → Option StepFault
 image_fault s = first_from (image_fault_at s) 0 (length s.images)
@@ -103,16 +104,16 @@ image_fault s = first_from (image_fault_at s) 0 (length s.images)
 -- Each demanded image is there.
 
 abbrev pub is_demanded : RawStep → ℕ → Bool
-is_demanded s u = not (is_marker s u) && has (demands s u) (allowed s s.axis)
+is_demanded s u = not (is_marker s u) && list_any (demands s u) (allowed s s.axis)
 
 abbrev pub missing_tile_at : RawStep → ℕ → Option StepFault
-missing_tile_at s u = unless (not (is_demanded s u) || has (same_image (Single u)) s.images) (MissingTile u)
+missing_tile_at s u = unless (not (is_demanded s u) || list_any (same_image (Single u)) s.images) (MissingTile u)
 
 abbrev pub missing_tile : RawStep → Option StepFault
 missing_tile s = first_from (missing_tile_at s) 0 (length s.fine.tiles)
 
 abbrev pub missing_pair_at : RawStep → ℕ × ℕ → Option StepFault
-missing_pair_at s p = unless (not (is_block s p.0 p.1) || has (same_image (Double p.0 p.1)) s.images) (MissingPair p.0 p.1)
+missing_pair_at s p = unless (not (is_block s p.0 p.1) || list_any (same_image (Double p.0 p.1)) s.images) (MissingPair p.0 p.1)
 
 abbrev pub missing_pair : RawStep → Option StepFault
 missing_pair s = first_in (missing_pair_at s) (allowed s s.axis)

@@ -1,9 +1,9 @@
 -- Good steps.
 use Rattle.std.specs.Prelude.{ℕ, ◌≡◌, ◌<◌, length, take, slice_get, None, Some, true, false}
+use Rattle.std.specs.List.{list_any}
 use Rattle.wt_grid.specs.declared.image.Image.TheVariants.{One as Single, Two as Double}
 use Rattle.wt_grid.specs.declared.axis.Axis.{Axis}
 use Rattle.wt_tile.specs.Matching.{matches}
-use Rattle.wt_grid.specs.Order.{has}
 use Rattle.wt_step.specs.declared.raw.RawStep.{RawStep}
 use Rattle.wt_step.specs.declared.raw.RawRestrict.{RawRestrict}
 use Rattle.wt_step.specs.declared.raw.Lost.{Lost}
@@ -24,10 +24,10 @@ pub record GoodStep (s : RawStep) : Type 0 where
   -- each image is a non-marker, or an allowed pair in the order of the side
   pub images : (i : ℕ) → i < length s.images → is_good_image s (image_at s i) ≡ true
   -- and comes once
-  pub distinct : (i : ℕ) → i < length s.images → has (same_image (image_at s i)) (take i s.images) ≡ false
+  pub distinct : (i : ℕ) → i < length s.images → list_any (same_image (image_at s i)) (take i s.images) ≡ false
   -- each non-marker that an allowed pair demands is an image, and so is each such pair
-  pub has_tiles : (u : ℕ) → u < length s.fine.tiles → is_demanded s u ≡ true → has (same_image (Single u)) s.images ≡ true
-  pub has_pairs : (a b : ℕ) → allows s s.axis a b ≡ true → is_block s a b ≡ true → has (same_image (Double a b)) s.images ≡ true
+  pub has_tiles : (u : ℕ) → u < length s.fine.tiles → is_demanded s u ≡ true → list_any (same_image (Single u)) s.images ≡ true
+  pub has_pairs : (a b : ℕ) → allows s s.axis a b ≡ true → is_block s a b ≡ true → list_any (same_image (Double a b)) s.images ≡ true
   -- coarse tiles match as their images do
   pub joins : (axis : Axis) (i j : ℕ) → i < length s.coarse.tiles → j < length s.coarse.tiles
       → matches s.coarse.tiles axis i j ≡ images_match s axis (image_at s i) (image_at s j)

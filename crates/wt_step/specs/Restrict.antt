@@ -1,5 +1,6 @@
 -- Restrict steps: some tiles are kept, and the others stand in no core of the radius.
 use Rattle.std.specs.Prelude.{ℕ, ◌≡◌, ◌<◌, ◌≤◌, true, length, slice_index, Option, None, Bool, ◌&&◌, not, nat_eq, nat_lt, nat_le, option_map}
+use Rattle.std.specs.List.{list_any}
 use Rattle.wt_grid.specs.declared.axis.Axis.TheVariants.{One, Two}
 use Rattle.wt_grid.specs.declared.axis.Axis.{Axis}
 use Rattle.wt_tile.specs.Sets.{set_fault}
@@ -10,7 +11,7 @@ use Rattle.wt_step.specs.declared.raw.Lost.{Lost}
 use Rattle.wt_step.specs.declared.raw.StepFault.{StepFault}
 use Rattle.wt_step.specs.declared.raw.StepFault.TheVariants.{Radius, Fine, Coarse, Kept, LostList, LostNode, Join}
 use Rattle.wt_grid.specs.First.{or_else, first_from}
-use Rattle.wt_grid.specs.Order.{in_order, has, first_in, is_below, follows, agree}
+use Rattle.wt_grid.specs.Order.{in_order, first_in, is_below, follows, agree}
 use Rattle.wt_step.specs.Faults.{unless}
 
 -- The kept tiles ascend, are fine tiles, and are as many as the coarse tiles.
@@ -19,7 +20,7 @@ abbrev pub kept_fit : RawRestrict → Bool
 kept_fit s = in_order (is_below (length s.fine.tiles)) follows s.kept && nat_eq (length s.kept) (length s.coarse.tiles)
 
 abbrev pub is_kept : RawRestrict → ℕ → Bool
-is_kept s t = has (nat_eq t) s.kept
+is_kept s t = list_any (nat_eq t) s.kept
 
 -- The lost tiles are exactly the other fine tiles, ascending.
 
@@ -33,7 +34,7 @@ abbrev pub loses : ℕ → Lost → Bool
 loses t l = nat_eq t l.tile
 
 abbrev pub is_lost : RawRestrict → ℕ → Bool
-is_lost s t = has (loses t) s.lost
+is_lost s t = list_any (loses t) s.lost
 
 abbrev pub lost_fit : RawRestrict → Bool
 lost_fit s = in_order (lost_below (length s.fine.tiles)) losses_follow s.lost

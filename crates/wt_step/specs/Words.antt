@@ -1,5 +1,6 @@
 -- The words in which the conditions on a step are said.
 use Rattle.std.specs.Prelude.{ℕ, ◌+◌, List, slice_index_or, Option, Bool, false, ◌&&◌, not, nat_eq, nat_lt, nat_le, if◌then◌else◌}
+use Rattle.std.specs.List.{list_any, find}
 use Rattle.wt_grid.specs.Axes.{same_axis}
 use Rattle.wt_grid.specs.Images.{first_tile, last_tile}
 use Rattle.wt_grid.specs.declared.image.Image.TheVariants.{One as Single, Two as Double}
@@ -14,7 +15,6 @@ use Rattle.wt_refute.specs.declared.tree.Refuted.{Refuted}
 use Rattle.wt_step.specs.declared.raw.RawStep.{RawStep}
 use Rattle.wt_refute.specs.Entries.{is_entry}
 use Rattle.wt_grid.specs.Pairs.{is_pair}
-use Rattle.wt_grid.specs.Order.{has, find}
 use Rattle.wt_grid.specs.First.{count_from}
 
 -- Refutations.
@@ -48,10 +48,10 @@ allowed s One = s.allowed1
 allowed s Two = s.allowed2
 
 abbrev pub allows : RawStep → Axis → ℕ → ℕ → Bool
-allows s axis a b = has (is_pair a b) (allowed s axis)
+allows s axis a b = list_any (is_pair a b) (allowed s axis)
 
 abbrev pub is_marker : RawStep → ℕ → Bool
-is_marker s a = has (nat_eq a) s.markers
+is_marker s a = list_any (nat_eq a) s.markers
 
 -- a matching pair that isn't allowed
 abbrev pub is_barred : RawStep → Axis → ℕ → ℕ → Bool

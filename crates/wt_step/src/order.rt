@@ -1,6 +1,7 @@
 // Lists in strict order, and look-ups in them.
 ghost use Rattle.std.specs.Prelude.{◌≡◌, nat_eq};
-ghost use Rattle.wt_grid.specs.Order.{in_order, leads, is_below, has, follows};
+ghost use Rattle.std.specs.List.{list_any};
+ghost use Rattle.wt_grid.specs.Order.{in_order, leads, is_below, follows};
 ghost use Rattle.wt_grid.specs.Pairs.{pairs_follow};
 ghost use Rattle.wt_grid.specs.Pairs as spec;
 
@@ -29,7 +30,7 @@ fn number_leads(number: u16, after: &[u16]) -> bool
 
 /// Whether a number stands in a list.
 pub fn is_among(number: u16, numbers: &[u16]) -> bool
-    ensures { result ≡ has (nat_eq number) numbers.now }
+    ensures { result ≡ list_any (nat_eq number) numbers.now }
 {
     for other in numbers {
         if number == *other {

@@ -1,6 +1,7 @@
 // Restrict steps: the tests.
 ghost use Rattle.std.specs.Prelude.{◌≡◌, ◌≤◌, length};
-ghost use Rattle.wt_grid.specs.Order.{in_order, leads, has};
+ghost use Rattle.std.specs.List.{list_any};
+ghost use Rattle.wt_grid.specs.Order.{in_order, leads};
 ghost use Rattle.wt_step.specs.Restrict.{lost_below, losses_follow, loses, IsSorted};
 ghost use Rattle.wt_step.specs.Restrict as spec;
 
@@ -41,7 +42,7 @@ fn lost_ascend(below: usize, losses: &[Lost]) -> bool
 }
 
 fn is_lost(tile: u16, losses: &[Lost]) -> bool
-    ensures { result ≡ has (loses tile) losses.now }
+    ensures { result ≡ list_any (loses tile) losses.now }
 {
     for lost in losses {
         if tile == lost.tile {

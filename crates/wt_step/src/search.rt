@@ -1,6 +1,7 @@
 // Binary search in lists in strict order.
 ghost use Rattle.std.specs.Prelude.{◌≡◌};
-ghost use Rattle.wt_grid.specs.Order.{has, IsSplit};
+ghost use Rattle.std.specs.List.{list_any};
+ghost use Rattle.wt_grid.specs.Order.{IsSplit};
 ghost use Rattle.wt_grid.specs.Pairs as spec;
 
 use crate::order::{is_pair, pair_before};
@@ -8,7 +9,7 @@ use crate::order::{is_pair, pair_before};
 /// Whether a pair stands in a list in order.
 pub fn has_pair(a: u16, b: u16, pairs: &[(u16, u16)]) -> bool
     requires { IsSplit (spec.pair_before a b) (spec.is_pair a b) pairs.now }
-    ensures { result ≡ has (spec.is_pair a b) pairs.now }
+    ensures { result ≡ list_any (spec.is_pair a b) pairs.now }
 {
     let mut left = pairs;
     loop {

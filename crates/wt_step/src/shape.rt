@@ -1,6 +1,7 @@
 // Lists in order and in range.
 ghost use Rattle.std.specs.Prelude.{◌≡◌, ◌≤◌, length};
-ghost use Rattle.wt_grid.specs.Order.{in_order, leads, all_of};
+ghost use Rattle.std.specs.List.{list_all};
+ghost use Rattle.wt_grid.specs.Order.{in_order, leads};
 ghost use Rattle.wt_step.specs.Words as words;
 ghost use Rattle.wt_refute.specs.Entries.{entries_follow};
 ghost use Rattle.wt_step.specs.Faults.{IsShaped};
@@ -50,7 +51,7 @@ fn image_fits(below: usize, image: Image) -> bool
 }
 
 fn all_fit(below: usize, images: &[Image]) -> bool
-    ensures { result ≡ all_of (words.image_fits below) images.now }
+    ensures { result ≡ list_all (words.image_fits below) images.now }
 {
     for image in images {
         if !image_fits(below, *image) {

@@ -1,9 +1,10 @@
 -- Bytes as lines of tokens, and back.
 use Rattle.std.proofs.Common.{rules, arith, ◌≡◌, ℕ, zero, suc, ◌+◌, List, [], ◌∷◌, ◌++◌, Bool, true, false, cond, nat_eq, refl, sym, ap, ◌∙◌, append_assoc, subst}
+use Rattle.std.specs.List.{flat_map}
 use Rattle.std.proofs.lemmas.Bool.{eqb-true}
 use Rattle.wt_text.specs.Words.{tokens, in_first, spaced}
 use Rattle.wt_text.specs.Lines.{Line, lines, in_line, line_of, bytes_of}
-use Rattle.wt_text.specs.Spellings.{IsClean, AllFit, IsSome, flat}
+use Rattle.wt_text.specs.Spellings.{IsClean, AllFit, IsSome}
 
 pub some_tokens : (bs : List ℕ) → IsSome (tokens bs)
 some_tokens [] = tt

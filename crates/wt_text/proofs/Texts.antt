@@ -1,9 +1,10 @@
 -- Readers of a text put together.
 use Rattle.std.proofs.Common.{rules, arith, ◌≡◌, ℕ, zero, suc, ◌+◌, ◌≤◌, ◌<◌, Bool, true, false, cond, List, [], ◌∷◌, ◌++◌, length, Option, Some, None, Result, Ok, Err, refl, sym, ap, ◌∙◌, append_assoc, subst}
+use Rattle.std.specs.List.{flat_map}
 use Rattle.wt_text.specs.Words.{tokens, spaced}
 use Rattle.wt_text.specs.Lines.{Line, line_of, lines, bytes_of}
 use Rattle.wt_text.specs.Readers.{◌then◌, LineFault, wrong, past, TextFault, syntax_at, limit_at, faulty, line_read, line_at, one_line, both_parts, many_parts, counted_parts, ended_here, whole_text}
-use Rattle.wt_text.specs.Spellings.{IsClean, AllFit, IsSome, both_spelling, flat, line_spelling, FitInTurn}
+use Rattle.wt_text.specs.Spellings.{IsClean, AllFit, IsSome, both_spelling, line_spelling, FitInTurn}
 use Rattle.wt_text.proofs.Split.{spaced_tokens, tokens_spaced, AllClean, lines_again, bytes_lines}
 use Rattle.wt_text.proofs.Formats.{IsLine}
 
@@ -87,10 +88,10 @@ both_part {W} {A} {B} {ra} {sa} {Fa} {rb} {sb} {Fb} f g = record {
 
 module _ {W A S : Type 0} {read : S → ℕ × List Line → Result (A × (ℕ × List Line)) (TextFault W)} {spell : A → List Line} {Fits : S → A → Type 0} (next : S → A → S) (f : (s : S) → IsPart (read s) spell (Fits s)) where
   many_found : (s : S) (n : ℕ) (p : ℕ × List Line) (xs : List A) (q : ℕ × List Line) → many_parts read next s n p ≡ Ok (xs, q)
-      → (p.1 ≡ flat spell xs ++ q.1) × (length xs ≡ n) × FitInTurn Fits next s xs
+      → (p.1 ≡ flat_map spell xs ++ q.1) × (length xs ≡ n) × FitInTurn Fits next s xs
   many_found s zero p xs q e =
       let h = ok_pair [] xs p q e in
-      let P : List A → Type 0 = λ y. (p.1 ≡ flat spell y ++ q.1) × (length y ≡ 0) × FitInTurn Fits next s y in
+      let P : List A → Type 0 = λ y. (p.1 ≡ flat_map spell y ++ q.1) × (length y ≡ 0) × FitInTurn Fits next s y in
       subst P h.0 (ap (λ (y : ℕ × List Line). y.1) h.1, refl, tt)
   many_found s (suc n) p xs q e =
       let a = then_ok (read s p) _ (xs, q) e in
@@ -98,37 +99,37 @@ module _ {W A S : Type 0} {read : S → ℕ × List Line → Result (A × (ℕ �
       let h = ok_pair (a.0.0 ∷ b.0.0) xs b.0.1 q b.2 in
       let one = (f s).found p a.0.0 a.0.1 a.1 in
       let others = many_found (next s a.0.0) n a.0.1 b.0.0 b.0.1 b.1 in
-      let P : List A → Type 0 = λ y. (p.1 ≡ flat spell y ++ q.1) × (length y ≡ suc n) × FitInTurn Fits next s y in
-      let left : flat spell b.0.0 ++ b.0.1.1 ≡ flat spell b.0.0 ++ q.1 = ap (λ (y : ℕ × List Line). flat spell b.0.0 ++ y.1) h.1 in
+      let P : List A → Type 0 = λ y. (p.1 ≡ flat_map spell y ++ q.1) × (length y ≡ suc n) × FitInTurn Fits next s y in
+      let left : flat_map spell b.0.0 ++ b.0.1.1 ≡ flat_map spell b.0.0 ++ q.1 = ap (λ (y : ℕ × List Line). flat_map spell b.0.0 ++ y.1) h.1 in
       subst P h.0 (
-        one.0 ∙ ap (λ (r : List Line). spell a.0.0 ++ r) (others.0 ∙ left) ∙ sym (append_assoc (spell a.0.0) (flat spell b.0.0) q.1),
+        one.0 ∙ ap (λ (r : List Line). spell a.0.0 ++ r) (others.0 ∙ left) ∙ sym (append_assoc (spell a.0.0) (flat_map spell b.0.0) q.1),
         ap suc others.1,
         (one.1, others.2),
       )
 
-  many_again : (s : S) (xs : List A) (n : ℕ) (rest : List Line) → FitInTurn Fits next s xs → (m : ℕ) × (many_parts read next s (length xs) (n, flat spell xs ++ rest) ≡ Ok (xs, (m, rest)))
+  many_again : (s : S) (xs : List A) (n : ℕ) (rest : List Line) → FitInTurn Fits next s xs → (m : ℕ) × (many_parts read next s (length xs) (n, flat_map spell xs ++ rest) ≡ Ok (xs, (m, rest)))
   many_again s [] n rest fits = (n, refl)
   many_again s (x ∷ xs) n rest fits =
-      let a = (f s).again x n (flat spell xs ++ rest) fits.0 in
+      let a = (f s).again x n (flat_map spell xs ++ rest) fits.0 in
       let b = many_again (next s x) xs a.0 rest fits.1 in
-      (b.0, rw (append_assoc (spell x) (flat spell xs) rest, a.1, b.1) refl)
+      (b.0, rw (append_assoc (spell x) (flat_map spell xs) rest, a.1, b.1) refl)
 
-  many_clean : (s : S) (xs : List A) → FitInTurn Fits next s xs → AllClean (flat spell xs)
+  many_clean : (s : S) (xs : List A) → FitInTurn Fits next s xs → AllClean (flat_map spell xs)
   many_clean s [] fits = no_lines
-  many_clean s (x ∷ xs) fits = clean_lines (spell x) (flat spell xs) ((f s).clean x fits.0) (many_clean (next s x) xs fits.1)
+  many_clean s (x ∷ xs) fits = clean_lines (spell x) (flat_map spell xs) ((f s).clean x fits.0) (many_clean (next s x) xs fits.1)
 
-  pub many_part : (s : S) (n : ℕ) → IsPart (many_parts read next s n) (flat spell) (λ xs. (length xs ≡ n) × FitInTurn Fits next s xs)
+  pub many_part : (s : S) (n : ℕ) → IsPart (many_parts read next s n) (flat_map spell) (λ xs. (length xs ≡ n) × FitInTurn Fits next s xs)
   many_part s n = record {
     found = λ p xs q e. let h = many_found s n p xs q e in (h.0, (h.1, h.2));
     again = λ xs m rest fits.
         let a = many_again s xs m rest fits.1 in
-        let P : ℕ → Type 0 = λ k. (m' : ℕ) × (many_parts read next s k (m, flat spell xs ++ rest) ≡ Ok (xs, (m', rest))) in
+        let P : ℕ → Type 0 = λ k. (m' : ℕ) × (many_parts read next s k (m, flat_map spell xs ++ rest) ≡ Ok (xs, (m', rest))) in
         subst P fits.0 a;
     clean = λ xs fits. many_clean s xs fits.1;
   }
 
   pub counted_part : {count : ℕ × List Line → Result (ℕ × (ℕ × List Line)) (TextFault W)} {sc : ℕ → List Line} {Fc : ℕ → Type 0} → IsPart count sc Fc
-      → (s : S) → IsPart (counted_parts count read next s) (λ xs. sc (length xs) ++ flat spell xs) (λ xs. Fc (length xs) × FitInTurn Fits next s xs)
+      → (s : S) → IsPart (counted_parts count read next s) (λ xs. sc (length xs) ++ flat_map spell xs) (λ xs. Fc (length xs) × FitInTurn Fits next s xs)
   unfolding counted_parts
   counted_part {count} {sc} {Fc} c s = record {
     found = λ p xs q e.
@@ -137,12 +138,12 @@ module _ {W A S : Type 0} {read : S → ℕ × List Line → Result (A × (ℕ �
         let k = c.found p n.0.0 n.0.1 n.1 in
         let P : ℕ → Type 0 = λ m. (p.1 ≡ sc m ++ n.0.1.1) × Fc m in
         let g = subst P (sym h.1) k in
-        (g.0 ∙ ap (λ (r : List Line). sc (length xs) ++ r) h.0 ∙ sym (append_assoc (sc (length xs)) (flat spell xs) q.1), (g.1, h.2));
+        (g.0 ∙ ap (λ (r : List Line). sc (length xs) ++ r) h.0 ∙ sym (append_assoc (sc (length xs)) (flat_map spell xs) q.1), (g.1, h.2));
     again = λ xs n rest fits.
-        let a = c.again (length xs) n (flat spell xs ++ rest) fits.0 in
+        let a = c.again (length xs) n (flat_map spell xs ++ rest) fits.0 in
         let b = many_again s xs a.0 rest fits.1 in
-        (b.0, rw (append_assoc (sc (length xs)) (flat spell xs) rest, a.1) b.1);
-    clean = λ xs fits. clean_lines (sc (length xs)) (flat spell xs) (c.clean (length xs) fits.0) (many_clean s xs fits.1);
+        (b.0, rw (append_assoc (sc (length xs)) (flat_map spell xs) rest, a.1) b.1);
+    clean = λ xs fits. clean_lines (sc (length xs)) (flat_map spell xs) (c.clean (length xs) fits.0) (many_clean s xs fits.1);
   }
 
 -- a whole text, over its bytes

@@ -28,10 +28,6 @@ both_spelling sa sb x = sa x.0 ++ sb x.1
 abbrev pub counted_spelling : List ℕ → List (List ℕ)
 counted_spelling ns = decimal (length ns) ∷ map decimal ns
 
-abbrev pub flat : {A C : Type 0} → (A → List C) → List A → List C
-flat spell [] = []
-flat spell (x ∷ xs) = spell x ++ flat spell xs
-
 abbrev pub line_spelling : {A : Type 0} → (A → List (List ℕ)) → A → List Line
 line_spelling spell x = line_of (spell x) ∷ []
 
