@@ -5,7 +5,7 @@ use Rattle.wt_grid.specs.declared.image.Image.{Image}
 use Rattle.wt_line.specs.declared.faults.What.{What}
 use Rattle.wt_line.specs.Given.{left}
 use Rattle.wt_text.specs.Words.{tokens}
-use Rattle.wt_text.specs.Spellings.{IsSome}
+use Rattle.wt_text.specs.Spellings.{IsNotEmpty}
 use Rattle.wt_text.specs.Readers.{◌>>=◌, pair, mapped}
 use Rattle.wt_text.proofs.Split.{some_tokens}
 use Rattle.wt_cert.specs.LineForms.{small, image_of, image_behind}
@@ -21,6 +21,6 @@ pub two_images : (u : Result ℕ What) (more : Bool) (line : List ℕ) → more 
 two_images u false line e = absurd cc
 two_images u true line e = go (tokens line) (some_tokens line)
   where
-    go : (ts : List (List ℕ)) → IsSome ts → image_behind u ts ≡ second_image u ts
+    go : (ts : List (List ℕ)) → IsNotEmpty ts → image_behind u ts ≡ second_image u ts
     go [] s = absurd s
     go (t ∷ ts) s = refl

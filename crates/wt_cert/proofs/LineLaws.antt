@@ -15,11 +15,11 @@ use Rattle.wt_chain.specs.declared.raw.Version.{Version}
 use Rattle.wt_chain.specs.declared.raw.Version.TheVariants as versions
 use Rattle.wt_text.specs.Words.{number}
 use Rattle.wt_text.specs.Readers.{pair, mapped, within, either_word, Either, first, second}
-use Rattle.wt_text.specs.Spellings.{IsClean, AllFit, IsSome, number_spelling}
+use Rattle.wt_text.specs.Spellings.{IsClean, AllFit, IsNotEmpty, number_spelling}
 use Rattle.wt_text.proofs.Numbers.{number_found, number_again, decimal_clean}
 use Rattle.wt_text.proofs.Formats.{IsFormat, IsLine, bind_some, read_is, pair_ok, within_ok, within_again, number_format, both_format, behind_format, whole_line}
 use Rattle.wt_text.proofs.Last.{IsLast, both_last, behind_last, whole_last, word_format, numbers_last}
-use Rattle.wt_cert.specs.LineForms.{small, radius, axis, side, alone_form, count_form, numbers_form, version_form, step_count, steps_form, marker_head, restrict_head, Head, kind_of_step, head_form, allowed_form, pair_form, may_cite, radius_in, refuted_form, lost_form, image_of, image_behind, image, image_form, end_form}
+use Rattle.wt_cert.specs.LineForms.{small, radius, axis, side, alone_form, count_form, numbers_form, version_form, step_count, steps_form, marker_head, restrict_head, Head, kind_of_step, head_form, allowed_form, pair_form, may_cite, radius_in, refuted_form, lost_form, image_of, image_behind, image_in, image_form, end_form}
 use Rattle.wt_cert.specs.Spelling.{count_tokens, numbers_tokens, version_word, axis_digit, side_word, pair_tokens, radius_tokens, image_tokens}
 use Rattle.wt_cert.specs.Fits.{IsSmall, NumbersFit, PairFits, RadiusFits, ImageFits}
 use Rattle.wt_cert.specs.Trees.{tree_spelling, TreeFits}
@@ -166,7 +166,7 @@ pub lost_line : (nodes : ℕ) → IsLine (lost_form nodes) (λ x. decimal x.0 �
 unfolding lost_form
 lost_line nodes = whole_last (λ x. tt) (both_last small_format (tree_last true nodes))
 
-image_last : IsLast image image_tokens ImageFits
+image_last : IsLast image_in image_tokens ImageFits
 image_last = record { found = found; again = again; clean = clean }
   where
     one_is : (r : Result ℕ What) (x : Image) → mapped Single r ≡ Ok x → (u : ℕ) × (r ≡ Ok u) × (Single u ≡ x)
@@ -194,10 +194,10 @@ image_last = record { found = found; again = again; clean = clean }
         let P : Image → Type 0 = λ y. (ts ≡ image_tokens y ++ rest) × ImageFits y in
         subst P o.2 (f.0 ∙ ap (λ (y : List (List ℕ)). decimal o.0.0 ∷ y) g.0, (f.1, g.1))
 
-    found : (ts : List (List ℕ)) (x : Image) (rest : List (List ℕ)) → image ts ≡ Some (Ok x, rest) → (ts ≡ image_tokens x ++ rest) × ImageFits x
+    found : (ts : List (List ℕ)) (x : Image) (rest : List (List ℕ)) → image_in ts ≡ Some (Ok x, rest) → (ts ≡ image_tokens x ++ rest) × ImageFits x
     found ts x rest e = let u = bind_some (small ts) _ (Ok x, rest) e in behind_first ts u.0.0 u.0.1 x rest u.1 u.2
 
-    again : (x : Image) → ImageFits x → image (image_tokens x) ≡ Some (Ok x, [])
+    again : (x : Image) → ImageFits x → image_in (image_tokens x) ≡ Some (Ok x, [])
     again (Single u) le = rw (number_again u (omega (arith, le)), within_again 65535 Number u le) refl
     again (Double u v) fits =
         let a : u ≤ 65535 = fits.0 in
@@ -208,7 +208,7 @@ image_last = record { found = found; again = again; clean = clean }
     clean (Single u) le = (decimal_clean u (omega (arith, le)), tt)
     clean (Double u v) fits = let a : u ≤ 65535 = fits.0 in let b : v ≤ 65535 = fits.1 in (decimal_clean u (omega (arith, a)), (decimal_clean v (omega (arith, b)), tt))
 
-some_image : (x : Image) → IsSome (image_tokens x)
+some_image : (x : Image) → IsNotEmpty (image_tokens x)
 some_image (Single u) = tt
 some_image (Double u v) = tt
 
@@ -230,7 +230,7 @@ pub end_line : IsLine end_form end_tokens EndLineFits
 unfolding end_form
 end_line = whole_line some (same_format end_tokens EndLineFits same (λ h fits. to h fits) (λ h fits. from h fits) (either_format (codes "open") (codes "loop") (search rules) (search rules) refl (given_format tt) (both_format small_format (number_format 256 Expansion (omega arith)))))
   where
-    some : (h : Either (Unit {0}) (ℕ × ℕ)) → IsSome (end_tokens h)
+    some : (h : Either (Unit {0}) (ℕ × ℕ)) → IsNotEmpty (end_tokens h)
     some (first u) = tt
     some (second x) = tt
 

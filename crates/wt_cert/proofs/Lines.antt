@@ -8,7 +8,7 @@ use Rattle.wt_line.specs.declared.faults.LineFault.TheVariants as line
 use Rattle.wt_line.specs.Faults.{IsWrong, LineFails}
 use Rattle.wt_chain.specs.declared.raw.Version.{Version}
 use Rattle.wt_refute.specs.Refutation.{Refutation}
-use Rattle.wt_text.specs.Readers.{after, pair, judged, behind, both, whole}
+use Rattle.wt_text.specs.Readers.{after, pair, judged, value_behind, both, whole}
 use Rattle.wt_cert.specs.LineForms.{small, axis, Head, kind_of_step, head_form, may_cite, radius_in, refuted_form, lost_form}
 use Rattle.wt_cert.specs.Trees.{tree_to_end}
 
@@ -22,7 +22,7 @@ more_fails line.OutOfMemory r ts w = absurd w
 
 pub head_fails : (e : LineFault) (version : Version) (k : ℕ) (r : Result Head What) (ts r1 r2 r3 : List (List ℕ)) → after (codes "step") ts ≡ Some r1 → after (decimal k) r1 ≡ Some r2 → kind_of_step version r2 ≡ Some (r, r3) → IsWrong e r3
     → LineFails e (head_form version k ts)
-unfolding head_form whole behind
+unfolding head_form whole value_behind
 head_fails e version k r ts r1 r2 r3 a b c w = rw (a, b, c) (more_fails e r r3 w)
 
 pub refuted_fails : (e : LineFault) (version : Version) (radius nodes : ℕ) (ts r1 r2 r3 r4 r5 : List (List ℕ)) (x : Axis) (a b r : Result ℕ What) (tree : Result Refutation What) → axis ts ≡ Some (Ok x, r1) → small r1 ≡ Some (a, r2) → small r2 ≡ Some (b, r3)

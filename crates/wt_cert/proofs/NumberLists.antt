@@ -9,8 +9,8 @@ use Rattle.wt_line.specs.declared.faults.LineFault.TheVariants as line
 use Rattle.wt_line.specs.Faults.{NotRead}
 use Rattle.wt_line.specs.Given.{left, held}
 use Rattle.wt_text.specs.Words.{number, tokens}
-use Rattle.wt_text.specs.Spellings.{IsSome}
-use Rattle.wt_text.specs.Readers.{◌>>=◌, within, joined, numbers_to, counted_numbers}
+use Rattle.wt_text.specs.Spellings.{IsNotEmpty}
+use Rattle.wt_text.specs.Readers.{◌>>=◌, within, value_in_front, numbers_to, counted_numbers}
 use Rattle.wt_text.proofs.Formats.{bind_some, read_is}
 use Rattle.wt_text.proofs.Split.{some_tokens}
 use Rattle.wt_cert.specs.LineForms.{small}
@@ -23,7 +23,7 @@ led (Ok ns) (Some (Ok ms)) = Some (Ok (ns ++ ms))
 led (Ok ns) (Some (Err w)) = Some (Err w)
 led (Err w) (Some r) = Some (Err w)
 
-one_led : (front : Result (List ℕ) What) (x : Result ℕ What) (r : Option (Result (List ℕ) What)) → led front (r >>= λ ns. Some (joined x ns)) ≡ led (with_number front x) r
+one_led : (front : Result (List ℕ) What) (x : Result ℕ What) (r : Option (Result (List ℕ) What)) → led front (r >>= λ ns. Some (value_in_front x ns)) ≡ led (with_number front x) r
 one_led (Ok ns) (Ok n) (Some (Ok ms)) = ap (λ (y : List ℕ). Some (Ok y)) (sym (append_assoc ns (n ∷ []) ms))
 one_led (Ok ns) (Ok n) (Some (Err w)) = refl
 one_led (Ok ns) (Err v) (Some r) = refl
@@ -63,7 +63,7 @@ no_number true line e h = go (tokens line) (some_tokens line) h
     step t ts None k m = rw k refl
     step t ts (Some n) k m = absurd cc
 
-    go : (ts : List (List ℕ)) → IsSome ts → small ts ≡ None → numbers_to 65535 Number ts ≡ None
+    go : (ts : List (List ℕ)) → IsNotEmpty ts → small ts ≡ None → numbers_to 65535 Number ts ≡ None
     go [] s m = absurd s
     go (t ∷ ts) s m = step t ts (number t) refl m
 

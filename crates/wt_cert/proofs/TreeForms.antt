@@ -1,7 +1,7 @@
 -- The form of a tree, by what is owed.
 use Rattle.std.proofs.Common.{arith, ◌≡◌, ◌⊎◌, inl, inr, ℕ, zero, suc, ◌+◌, ◌-◌, ◌≤◌, ◌<◌, ◌^◌, min, Bool, true, false, cond, not, ◌&&◌, nat_eq, List, [], ◌∷◌, length, Option, Some, None, refl, sym, ap, ◌∙◌}
 use Rattle.wt_text.specs.Words.{tokens, in_first, is_decimal}
-use Rattle.wt_text.specs.Spellings.{IsSome}
+use Rattle.wt_text.specs.Spellings.{IsNotEmpty}
 use Rattle.wt_text.proofs.Split.{some_tokens}
 use Rattle.wt_line.specs.Given.{left, room}
 use Rattle.wt_cert.specs.Trees.{Ending, children, cites, ending, is_ending, owed_by, held_owed, is_forest, is_tree}
@@ -82,6 +82,6 @@ pub none_owed : (citing more : Bool) (line : List ℕ) → not more ≡ is_fores
 none_owed citing false line = refl
 none_owed citing true line = go (tokens line) (some_tokens line)
   where
-    go : (ts : List (List ℕ)) → IsSome ts → false ≡ is_forest citing 0 ts
+    go : (ts : List (List ℕ)) → IsNotEmpty ts → false ≡ is_forest citing 0 ts
     go [] s = absurd s
     go (t ∷ ts) s = refl

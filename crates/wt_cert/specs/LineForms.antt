@@ -13,7 +13,7 @@ use Rattle.wt_refute.specs.Refutation.{Refutation}
 use Rattle.wt_chain.specs.declared.raw.Version.{Version}
 use Rattle.wt_chain.specs.declared.raw.Version.TheVariants as versions
 use Rattle.wt_text.specs.Words.{number}
-use Rattle.wt_text.specs.Readers.{◌>>=◌, pair, mapped, LineFault, within, number_to, either_word, given, seen_value, Either, first, either_behind, behind, both, whole, counted_numbers}
+use Rattle.wt_text.specs.Readers.{◌>>=◌, pair, mapped, LineFault, within, number_to, either_word, given, seen_value, Either, first, either_behind, value_behind, both, whole, counted_numbers}
 use Rattle.wt_cert.specs.Trees.{tree_to_end}
 
 -- a number that has no limit of its own
@@ -31,20 +31,20 @@ side = either_word (codes "after") After (codes "before") Before
 
 -- a word, and no more
 unfoldable pub alone_form : List ℕ → List (List ℕ) → Result (Unit {0}) (LineFault What)
-alone_form w = whole (behind w (given tt))
+alone_form w = whole (value_behind w (given tt))
 
 -- a word, and a count of what follows
 unfoldable pub count_form : List ℕ → ℕ → What → List (List ℕ) → Result ℕ (LineFault What)
-count_form w most what = whole (behind w (number_to most what))
+count_form w most what = whole (value_behind w (number_to most what))
 
 -- a word, a count, and so many numbers
 unfoldable pub numbers_form : List ℕ → List (List ℕ) → Result (List ℕ) (LineFault What)
-numbers_form w = whole (behind w (counted_numbers 256 Tiles 65535 Number))
+numbers_form w = whole (value_behind w (counted_numbers 256 Tiles 65535 Number))
 
 -- ---- certificate 1, or certificate 2
 
 unfoldable pub version_form : List (List ℕ) → Result Version (LineFault What)
-version_form = whole (behind (codes "certificate") (either_word (codes "1") versions.One (codes "2") versions.Two))
+version_form = whole (value_behind (codes "certificate") (either_word (codes "1") versions.One (codes "2") versions.Two))
 
 -- ---- steps S, where S is at least 1
 
@@ -53,32 +53,32 @@ step_count [] = None
 step_count (t ∷ ts) = number t >>= λ n. if nat_eq n 0 then None else Some (within 32 Steps n, ts)
 
 unfoldable pub steps_form : List (List ℕ) → Result ℕ (LineFault What)
-steps_form = whole (behind (codes "steps") step_count)
+steps_form = whole (value_behind (codes "steps") step_count)
 
 -- ---- step k axis A side W radius R, or in version two step k restrict radius R
 
 -- the axis, the side and the radius of a marker step
 abbrev pub marker_head : List (List ℕ) → Option (Result (Axis × (Side × ℕ)) What × List (List ℕ))
-marker_head = both axis (behind (codes "side") (both side (behind (codes "radius") radius)))
+marker_head = both axis (value_behind (codes "side") (both side (value_behind (codes "radius") radius)))
 
 abbrev pub restrict_head : List (List ℕ) → Option (Result ℕ What × List (List ℕ))
-restrict_head = behind (codes "radius") radius
+restrict_head = value_behind (codes "radius") radius
 
 -- the head of a marker step, or of a restrict step
 abbrev pub Head : Type 0
 Head = Either (Axis × (Side × ℕ)) ℕ
 
 abbrev pub kind_of_step : Version → List (List ℕ) → Option (Result Head What × List (List ℕ))
-kind_of_step versions.One ts = seen_value first (behind (codes "axis") marker_head ts)
+kind_of_step versions.One ts = seen_value first (value_behind (codes "axis") marker_head ts)
 kind_of_step versions.Two ts = either_behind (codes "axis") marker_head (codes "restrict") restrict_head ts
 
 unfoldable pub head_form : Version → ℕ → List (List ℕ) → Result Head (LineFault What)
-head_form version k = whole (behind (codes "step") (behind (decimal k) (kind_of_step version)))
+head_form version k = whole (value_behind (codes "step") (value_behind (decimal k) (kind_of_step version)))
 
 -- ---- allowed 1 c, or allowed 2 c: a b
 
 unfoldable pub allowed_form : List ℕ → List (List ℕ) → Result ℕ (LineFault What)
-allowed_form a = whole (behind (codes "allowed") (behind a (number_to 65536 Pairs)))
+allowed_form a = whole (value_behind (codes "allowed") (value_behind a (number_to 65536 Pairs)))
 
 unfoldable pub pair_form : List (List ℕ) → Result (ℕ × ℕ) (LineFault What)
 pair_form = whole (both small small)
@@ -112,11 +112,11 @@ abbrev pub image_behind : Result ℕ What → List (List ℕ) → Option (Result
 image_behind u [] = Some (mapped Single u, [])
 image_behind u (t ∷ ts) = small (t ∷ ts) >>= λ v. Some (mapped image_of (pair u v.0), v.1)
 
-abbrev pub image : List (List ℕ) → Option (Result Image What × List (List ℕ))
-image ts = small ts >>= λ u. image_behind u.0 u.1
+abbrev pub image_in : List (List ℕ) → Option (Result Image What × List (List ℕ))
+image_in ts = small ts >>= λ u. image_behind u.0 u.1
 
 unfoldable pub image_form : List (List ℕ) → Result Image (LineFault What)
-image_form = whole image
+image_form = whole image_in
 
 -- ---- open, or loop START E
 

@@ -33,7 +33,7 @@ pub enum EndLine {
 }
 
 /// A word, and no more.
-#[tactic(auto, unfolding(crate::specs::LineForms::alone_form, wt_text::specs::Readers::whole, wt_text::specs::Readers::behind))]
+#[tactic(auto, unfolding(crate::specs::LineForms::alone_form, wt_text::specs::Readers::whole, wt_text::specs::Readers::value_behind))]
 pub fn alone_row(name: &str, line: &[u8]) -> Result<(), LineFault>
     ensures { ReadsLine (λ x. x) result (alone_form name.now (tokens line.now)) }
 {
@@ -42,7 +42,7 @@ pub fn alone_row(name: &str, line: &[u8]) -> Result<(), LineFault>
 }
 
 /// A word, and a count of what follows.
-#[tactic(auto, unfolding(crate::specs::LineForms::count_form, wt_text::specs::Readers::whole, wt_text::specs::Readers::behind))]
+#[tactic(auto, unfolding(crate::specs::LineForms::count_form, wt_text::specs::Readers::whole, wt_text::specs::Readers::value_behind))]
 pub fn count_row(name: &str, most: u32, what: What, line: &[u8]) -> Result<u32, LineFault>
     ensures within { IfOk result (λ n. n ≤ most) }
     ensures read { ReadsLine (λ x. x) result (count_form name.now most what (tokens line.now)) }
@@ -54,7 +54,7 @@ pub fn count_row(name: &str, most: u32, what: What, line: &[u8]) -> Result<u32, 
 }
 
 /// `allowed 1 c` or `allowed 2 c`.
-#[tactic(auto, unfolding(crate::specs::LineForms::allowed_form, wt_text::specs::Readers::whole, wt_text::specs::Readers::behind))]
+#[tactic(auto, unfolding(crate::specs::LineForms::allowed_form, wt_text::specs::Readers::whole, wt_text::specs::Readers::value_behind))]
 pub fn allowed_row(axis: &str, line: &[u8]) -> Result<u32, LineFault>
     ensures { ReadsLine (λ x. x) result (allowed_form axis.now (tokens line.now)) }
 {
@@ -66,7 +66,7 @@ pub fn allowed_row(axis: &str, line: &[u8]) -> Result<u32, LineFault>
 }
 
 /// `certificate 1` or `certificate 2`.
-#[tactic(auto, unfolding(crate::specs::LineForms::version_form, wt_text::specs::Readers::whole, wt_text::specs::Readers::behind))]
+#[tactic(auto, unfolding(crate::specs::LineForms::version_form, wt_text::specs::Readers::whole, wt_text::specs::Readers::value_behind))]
 pub fn version_row(line: &[u8]) -> Result<Version, LineFault>
     ensures { ReadsLine (λ x. x) result (version_form (tokens line.now)) }
 {
@@ -107,7 +107,7 @@ fn step_count(rest: Rest<'_>) -> Result<(Result<u32, What>, Rest<'_>), LineFault
 }
 
 /// `steps S`.
-#[tactic(auto, unfolding(crate::specs::LineForms::steps_form, wt_text::specs::Readers::whole, wt_text::specs::Readers::behind))]
+#[tactic(auto, unfolding(crate::specs::LineForms::steps_form, wt_text::specs::Readers::whole, wt_text::specs::Readers::value_behind))]
 pub fn steps_row(line: &[u8]) -> Result<u32, LineFault>
     ensures within { IfOk result (λ n. n ≤ 32) }
     ensures read { ReadsLine (λ x. x) result (steps_form (tokens line.now)) }
@@ -119,7 +119,7 @@ pub fn steps_row(line: &[u8]) -> Result<u32, LineFault>
 }
 
 /// `A side W radius R`, behind the word `axis`.
-#[tactic(auto, unfolding(wt_text::specs::Readers::both, wt_text::specs::Readers::behind))]
+#[tactic(auto, unfolding(wt_text::specs::Readers::both, wt_text::specs::Readers::value_behind))]
 fn marker_head(rest: Rest<'_>) -> Result<(Result<Head, What>, Rest<'_>), LineFault>
     ensures { ReadsTokens (λ x. (mapped head_view x.0, tokens_left x.1)) result (seen_value first (spec.marker_head (tokens_left rest.entry))) }
 {
@@ -135,7 +135,7 @@ fn marker_head(rest: Rest<'_>) -> Result<(Result<Head, What>, Rest<'_>), LineFau
 }
 
 /// `radius R`, behind the word `restrict`.
-#[tactic(auto, unfolding(wt_text::specs::Readers::behind))]
+#[tactic(auto, unfolding(wt_text::specs::Readers::value_behind))]
 fn restrict_head(rest: Rest<'_>) -> Result<(Result<Head, What>, Rest<'_>), LineFault>
     ensures { ReadsTokens (λ x. (mapped head_view x.0, tokens_left x.1)) result (seen_value second (spec.restrict_head (tokens_left rest.entry))) }
 {
@@ -147,7 +147,7 @@ fn restrict_head(rest: Rest<'_>) -> Result<(Result<Head, What>, Rest<'_>), LineF
     }
 }
 
-#[tactic(auto, unfolding(wt_text::specs::Readers::behind))]
+#[tactic(auto, unfolding(wt_text::specs::Readers::value_behind))]
 fn kind_of_step(
     version: Version,
     rest: Rest<'_>,
@@ -172,7 +172,7 @@ fn kind_of_step(
 }
 
 /// `step k axis A side W radius R`, or in version two `step k restrict radius R`.
-#[tactic(auto, unfolding(crate::specs::LineForms::head_form, wt_text::specs::Readers::whole, wt_text::specs::Readers::behind))]
+#[tactic(auto, unfolding(crate::specs::LineForms::head_form, wt_text::specs::Readers::whole, wt_text::specs::Readers::value_behind))]
 pub fn head_row(version: Version, k: u32, line: &[u8]) -> Result<Head, LineFault>
     ensures { ReadsLine head_view result (head_form version k (tokens line.now)) }
 {

@@ -74,7 +74,7 @@ fn counted_numbers(alloc: Global, rest: Rest<'_>) -> Result<Result<Vec<u16>, Wha
 }
 
 /// A word, a count, and so many numbers, as `markers m t1 .. tm`.
-#[tactic(auto, unfolding(crate::specs::LineForms::numbers_form, wt_text::specs::Readers::whole, wt_text::specs::Readers::behind))]
+#[tactic(auto, unfolding(crate::specs::LineForms::numbers_form, wt_text::specs::Readers::whole, wt_text::specs::Readers::value_behind))]
 pub fn numbers_row(alloc: Global, name: &str, line: &[u8]) -> Result<Vec<u16>, LineFault>
     ensures { ReadsLine (λ v. v.items) result (numbers_form name.now (tokens line.now)) }
 {

@@ -13,7 +13,7 @@ use Rattle.wt_chain.specs.declared.raw.Refusal.TheVariants.{Empty, TooManySteps,
 use Rattle.wt_chain.specs.declared.raw.Version.{Version as Versions}
 use Rattle.wt_chain.specs.declared.raw.Version.TheVariants.{One, Two}
 use Rattle.wt_chain.specs.Versions.{version_fits, version_of, one_more, is_first_version}
-use Rattle.wt_chain.specs.Sets.{last_set, behind, AreLinked, IsRun}
+use Rattle.wt_chain.specs.Sets.{last_set, set_behind, AreLinked, IsRun}
 use Rattle.wt_chain.specs.Faults.{unless, size_fault, step_fault_at, steps_fault_from, steps_fault, end_fault, chain_fault}
 use Rattle.wt_chain.proofs.Run.{run_from}
 

@@ -17,7 +17,7 @@ use Rattle.wt_chain.specs.declared.raw.End.TheVariants.{Open, Loop}
 use Rattle.wt_chain.specs.declared.raw.Refusal.{Refusal}
 use Rattle.wt_chain.specs.declared.raw.Refusal.TheVariants.{Renaming, Expansion}
 use Rattle.wt_chain.specs.Sets.{last_set, AreLinked, IsRun}
-use Rattle.wt_chain.specs.Growth.{turns, has_grown}
+use Rattle.wt_chain.specs.Growth.{turn_stages, has_grown}
 use Rattle.wt_chain.specs.Faults.{unless, steps_fault_from, steps_fault, growth_fault_at, growth_fault, loop_fault, end_fault, chain_fault}
 use Rattle.wt_chain.specs.Good.{Grows, GoodLoop, GoodEnd, GoodChain}
 use Rattle.wt_chain.proofs.Run.{run_from, equal_same_set}
@@ -36,17 +36,17 @@ holds false fault e = absurd cc
 
 grows : (loop : List RawLink) (renaming : List ℕ) (n t : ℕ) → has_grown loop renaming n t ≡ true → Grows loop renaming n t
 grows loop renaming n t e =
-    let b = both (nat_le 2 (width (turns One loop renaming n) t)) (nat_le 2 (width (turns Two loop renaming n) t)) e in
-    let w : 2 ≤ width (turns One loop renaming n) t = grind (arith, nat_tests, b.0) in
-    let h : 2 ≤ width (turns Two loop renaming n) t = grind (arith, nat_tests, b.1) in
+    let b = both (nat_le 2 (width (turn_stages One loop renaming n) t)) (nat_le 2 (width (turn_stages Two loop renaming n) t)) e in
+    let w : 2 ≤ width (turn_stages One loop renaming n) t = grind (arith, nat_tests, b.0) in
+    let h : 2 ≤ width (turn_stages Two loop renaming n) t = grind (arith, nat_tests, b.1) in
     record { wide = omega (arith, wide loop renaming n t); high = omega (arith, high loop renaming n t) }
 
 grown : (loop : List RawLink) (renaming : List ℕ) (n t : ℕ) → Grows loop renaming n t → has_grown loop renaming n t ≡ true
 grown loop renaming n t g =
-    let w : 2 ≤ width (turns One loop renaming n) t = let s = g.wide in omega (arith, wide loop renaming n t) in
-    let h : 2 ≤ width (turns Two loop renaming n) t = let s = g.high in omega (arith, high loop renaming n t) in
-    let is_wide : nat_le 2 (width (turns One loop renaming n) t) ≡ true = grind (arith, nat_tests, w) in
-    let is_high : nat_le 2 (width (turns Two loop renaming n) t) ≡ true = grind (arith, nat_tests, h) in
+    let w : 2 ≤ width (turn_stages One loop renaming n) t = let s = g.wide in omega (arith, wide loop renaming n t) in
+    let h : 2 ≤ width (turn_stages Two loop renaming n) t = let s = g.high in omega (arith, high loop renaming n t) in
+    let is_wide : nat_le 2 (width (turn_stages One loop renaming n) t) ≡ true = grind (arith, nat_tests, w) in
+    let is_high : nat_le 2 (width (turn_stages Two loop renaming n) t) ≡ true = grind (arith, nat_tests, h) in
     rw (is_wide, is_high) refl
 
 all_none : {A : Type 0} (f : ℕ → Option A) (i n : ℕ) → ((k : ℕ) → i ≤ k → k < i + n → f k ≡ None) → first_from f i n ≡ None

@@ -14,7 +14,7 @@ use Rattle.wt_tile.specs.declared.tile.TileList.{TileList}
 use Rattle.wt_tile.specs.Sets.{set_fault}
 use Rattle.wt_tile.proofs.Sizes.{few_tiles}
 use Rattle.wt_grid.specs.First.{or_else, first_from}
-use Rattle.wt_grid.specs.Order.{in_order, leads, is_below, follows}
+use Rattle.wt_grid.specs.Order.{in_order, leads, is_below, comes_before}
 use Rattle.wt_grid.specs.Widths.{Stage, width, total}
 use Rattle.wt_grid.proofs.First.{neither}
 use Rattle.wt_grid.proofs.Order.{both}
@@ -29,7 +29,7 @@ use Rattle.wt_step.specs.Restrict.{kept_fit, sorting_fault, use_fault, restrict_
 use Rattle.wt_step.specs.Links.{link_fault, fine_of, coarse_of}
 use Rattle.wt_step.proofs.Goodness.{good_step}
 use Rattle.wt_chain.specs.Sets.{AreLinked, last_set, first_count, Closes}
-use Rattle.wt_chain.specs.Growth.{image_of, is_along, stage, stages, origin_from, origin, renaming_stage, turn, turns}
+use Rattle.wt_chain.specs.Growth.{image_of, is_along, stage, stages, origin_from, origin, renaming_stage, turn, turn_stages}
 use Rattle.wt_bijection.specs.Renaming.{renaming_fault}
 use Rattle.wt_bijection.proofs.Lengths.{no_fault}
 use Rattle.wt_chain.specs.Faults.{growth_fault_at, growth_fault, small_at, first_small}
@@ -42,11 +42,11 @@ all_at p [] t d e lt = absurd (omega arith)
 all_at p (x ∷ xs) zero d e lt = (both (p x) (list_all p xs) e).0
 all_at p (x ∷ xs) (suc t) d e lt = all_at p xs t d (both (p x) (list_all p xs) e).1 (omega arith)
 
-ordered_at : (n : ℕ) (xs : List ℕ) (t : ℕ) → in_order (is_below n) follows xs ≡ true → t < length xs → get_or xs t 0 < n
+ordered_at : (n : ℕ) (xs : List ℕ) (t : ℕ) → in_order (is_below n) comes_before xs ≡ true → t < length xs → get_or xs t 0 < n
 ordered_at n [] t e lt = absurd (omega arith)
 ordered_at n (x ∷ xs) t e lt =
-    let b = both (is_below n x && leads follows x xs) (in_order (is_below n) follows xs) e in
-    let c = both (is_below n x) (leads follows x xs) b.0 in
+    let b = both (is_below n x && leads comes_before x xs) (in_order (is_below n) comes_before xs) e in
+    let c = both (is_below n x) (leads comes_before x xs) b.0 in
     at_place t lt (grind (arith, nat_tests, c.0)) (λ k l. ordered_at n xs k b.1 l)
   where
     at_place : (k : ℕ) → k < length (x ∷ xs) → x < n → ((j : ℕ) → j < length xs → get_or xs j 0 < n) → get_or (x ∷ xs) k 0 < n
@@ -83,7 +83,7 @@ restrict_sorts s e =
 
 restrict_first : (s : RawRestrict) → restrict_fault s ≡ None → (t : ℕ) → t < length s.coarse.tiles → get_or s.kept t 0 < length s.fine.tiles
 restrict_first s e t lt =
-    let b = both (in_order (is_below (length s.fine.tiles)) follows s.kept) (nat_eq (length s.kept) (length s.coarse.tiles)) (restrict_sorts s e).2 in
+    let b = both (in_order (is_below (length s.fine.tiles)) comes_before s.kept) (nat_eq (length s.kept) (length s.coarse.tiles)) (restrict_sorts s e).2 in
     let n : length s.kept ≡ length s.coarse.tiles = grind (arith, nat_tests, b.1) in
     ordered_at (length s.fine.tiles) s.kept t b.0 (omega arith)
 
@@ -164,7 +164,7 @@ fine_good (Restrict s) e = (restrict_sorts s e).0
 -- after so many turns, for a loop of good steps whose renaming has no fault
 pub turns_are_table : (axis : Axis) (link : RawLink) (links : List RawLink) (renaming : List ℕ) (n : ℕ) → AreLinked (fine_of link) (link ∷ links)
     → renaming_fault (last_set (coarse_of link) links).tiles (fine_of link).tiles renaming ≡ None
-    → IsTable (length (fine_of link).tiles) (turns_table axis (link ∷ links) renaming n) (turns axis (link ∷ links) renaming n)
+    → IsTable (length (fine_of link).tiles) (turns_table axis (link ∷ links) renaming n) (turn_stages axis (link ∷ links) renaming n)
 turns_are_table axis link links renaming zero h e =
     let few = few_tiles (fine_of link) (fine_good link h.0) in
     record { tells = λ t lt. no_turn t (omega arith); some = λ t. omega arith }
@@ -172,9 +172,9 @@ turns_are_table axis link links renaming (suc n) h e =
     let few = few_tiles (fine_of link) (fine_good link h.0) in
     let whole = no_fault (last_set (coarse_of link) links).tiles (fine_of link).tiles renaming e in
     renamed_is_table (length (fine_of link).tiles) (length (last_set (coarse_of link) links).tiles) renaming
-    (climb axis (link ∷ links) (turns_table axis (link ∷ links) renaming n)) (stages axis (link ∷ links) (turns axis (link ∷ links) renaming n))
+    (climb axis (link ∷ links) (turns_table axis (link ∷ links) renaming n)) (stages axis (link ∷ links) (turn_stages axis (link ∷ links) renaming n))
     few.1 (omega arith) (omega arith)
-    (climb_is_table axis (link ∷ links) (fine_of link) (turns_table axis (link ∷ links) renaming n) (turns axis (link ∷ links) renaming n) h
+    (climb_is_table axis (link ∷ links) (fine_of link) (turns_table axis (link ∷ links) renaming n) (turn_stages axis (link ∷ links) renaming n) h
     (turns_are_table axis link links renaming n h e))
 
 pub first_same : {A : Type 0} (f g : ℕ → Option A) (i n : ℕ) → ((k : ℕ) → i ≤ k → k < i + n → f k ≡ g k) → first_from f i n ≡ first_from g i n
@@ -192,7 +192,7 @@ small_is_fault link links renaming n h e =
     first_same (small_at (turns_table One (link ∷ links) renaming n) (turns_table Two (link ∷ links) renaming n)) (growth_fault_at (link ∷ links) renaming n) 0 (length (fine_of link).tiles)
     (λ k lo hi. let w = wide.tells k (omega arith) in let t = high.tells k (omega arith) in rw (w, t) refl)
 
-pub growth_is_fault : (loop : List RawLink) (renaming : List ℕ) (turns : ℕ) → Closes loop renaming
-    → first_small (turns_table One loop renaming turns) (turns_table Two loop renaming turns) (first_count loop) ≡ growth_fault loop renaming turns (first_count loop)
-growth_is_fault [] renaming turns h = absurd h
-growth_is_fault (link ∷ links) renaming turns h = small_is_fault link links renaming turns h.0 h.1
+pub growth_is_fault : (loop : List RawLink) (renaming : List ℕ) (turn_stages : ℕ) → Closes loop renaming
+    → first_small (turns_table One loop renaming turn_stages) (turns_table Two loop renaming turn_stages) (first_count loop) ≡ growth_fault loop renaming turn_stages (first_count loop)
+growth_is_fault [] renaming turn_stages h = absurd h
+growth_is_fault (link ∷ links) renaming turn_stages h = small_is_fault link links renaming turn_stages h.0 h.1

@@ -21,7 +21,7 @@ use Rattle.wt_step.specs.Links.{fine_of, coarse_of}
 use Rattle.wt_chain.specs.declared.raw.Refusal.{Refusal}
 use Rattle.wt_chain.specs.declared.raw.Refusal.TheVariants.{Expansion}
 use Rattle.wt_chain.specs.Sets.{AreLinked, last_set, first_count, Closes}
-use Rattle.wt_chain.specs.Growth.{image_of, is_along, stage, stages, origin, renaming_stage, turn, turns, has_grown}
+use Rattle.wt_chain.specs.Growth.{image_of, is_along, stage, stages, origin, renaming_stage, turn, turn_stages, has_grown}
 use Rattle.wt_chain.specs.Faults.{unless, growth_fault_at, growth_fault, enough, least_expansion}
 use Rattle.wt_chain.proofs.Grown.{first_fits, fine_good, step_some, origin_below, first_same}
 use Rattle.wt_chain.proofs.Paths.{ever}
@@ -77,16 +77,16 @@ stages_are axis (link ∷ links) left some u =
 
 -- Turns.
 
-turns_some : (axis : Axis) (loop : List RawLink) (renaming : List ℕ) (e t : ℕ) → 1 ≤ width (turns axis loop renaming e) t
+turns_some : (axis : Axis) (loop : List RawLink) (renaming : List ℕ) (e t : ℕ) → 1 ≤ width (turn_stages axis loop renaming e) t
 turns_some axis loop renaming zero t = omega arith
-turns_some axis loop renaming (suc e) t = stages_some axis loop (turns axis loop renaming e) (turns_some axis loop renaming e) (origin renaming t)
+turns_some axis loop renaming (suc e) t = stages_some axis loop (turn_stages axis loop renaming e) (turns_some axis loop renaming e) (origin renaming t)
 
 abbrev long : Axis → List RawLink → List ℕ → ℕ → ℕ → Bool
-long axis loop renaming e t = nat_le 2 (width (turns axis loop renaming e) t)
+long axis loop renaming e t = nat_le 2 (width (turn_stages axis loop renaming e) t)
 
 turn_is : (axis : Axis) (loop : List RawLink) (renaming : List ℕ) (e t : ℕ)
     → long axis loop renaming (suc e) t ≡ (starts_in axis loop (origin renaming t) || long axis loop renaming e (follow loop (origin renaming t)))
-turn_is axis loop renaming e t = stages_are axis loop (turns axis loop renaming e) (turns_some axis loop renaming e) (origin renaming t)
+turn_is axis loop renaming e t = stages_are axis loop (turn_stages axis loop renaming e) (turns_some axis loop renaming e) (origin renaming t)
 
 no_turn : (axis : Axis) (loop : List RawLink) (renaming : List ℕ) (t : ℕ) → long axis loop renaming 0 t ≡ false
 no_turn axis loop renaming t = refl

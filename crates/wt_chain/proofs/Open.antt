@@ -14,7 +14,7 @@ use Rattle.wt_chain.specs.declared.raw.Version.{Version}
 use Rattle.wt_chain.specs.declared.raw.Version.TheVariants.{One, Two}
 use Rattle.wt_chain.specs.declared.push.PushFault.TheVariants.{NotNext as Apart, TooMany}
 use Rattle.wt_chain.specs.Versions.{version_fits, version_of, one_more, is_first_version}
-use Rattle.wt_chain.specs.Sets.{same_set, follows, comes_next, last_set, behind}
+use Rattle.wt_chain.specs.Sets.{same_set, follows, comes_next, last_set, set_behind}
 use Rattle.wt_chain.specs.Faults.{unless, step_fault_at, steps_fault_from, steps_fault, end_fault, chain_fault}
 use Rattle.wt_chain.specs.Chains.{IsOpen, push_fault}
 use Rattle.wt_chain.proofs.Good.{Parts, parts, no_fault}
@@ -60,17 +60,17 @@ more_from k set (first ∷ links) link e g s =
     let n = neither (step_fault_at k (Some set) first) (steps_fault_from (k + 1) (Some (coarse_of first)) links) e in
     rw n.0 (more_from (k + 1) (coarse_of first) links link n.1 g s)
 
-more_steps : (links : List RawLink) (link : RawLink) → steps_fault links ≡ None → link_fault link ≡ None → comes_next (behind links) link ≡ true
+more_steps : (links : List RawLink) (link : RawLink) → steps_fault links ≡ None → link_fault link ≡ None → comes_next (set_behind links) link ≡ true
     → steps_fault (links ++ link ∷ []) ≡ None
 more_steps [] link e g s = rw g refl
 more_steps (first ∷ links) link e g s =
     let n = neither (step_fault_at 0 None first) (steps_fault_from 1 (Some (coarse_of first)) links) e in
     rw n.0 (more_from 1 (coarse_of first) links link n.1 g s)
 
-pushed : (links : List RawLink) (link : RawLink) → push_fault links link ≡ None → (comes_next (behind links) link ≡ true) × (length links < 32)
-pushed links link e = at_next (comes_next (behind links) link) refl (nat_lt (length links) 32) refl
+pushed : (links : List RawLink) (link : RawLink) → push_fault links link ≡ None → (comes_next (set_behind links) link ≡ true) × (length links < 32)
+pushed links link e = at_next (comes_next (set_behind links) link) refl (nat_lt (length links) 32) refl
   where
-    at_next : (a : Bool) → comes_next (behind links) link ≡ a → (b : Bool) → nat_lt (length links) 32 ≡ b → (comes_next (behind links) link ≡ true) × (length links < 32)
+    at_next : (a : Bool) → comes_next (set_behind links) link ≡ a → (b : Bool) → nat_lt (length links) 32 ≡ b → (comes_next (set_behind links) link ≡ true) × (length links < 32)
     at_next true s true t = (s, grind (arith, nat_tests, t))
     at_next true s false t = absurd (let h = rw (s, t) at e in cc)
     at_next false s b t = absurd (let h = rw s at e in cc)

@@ -22,7 +22,7 @@ use Rattle.wt_step.specs.declared.raw.RawLink.{RawLink}
 use Rattle.wt_step.specs.declared.raw.RawLink.TheVariants.{Marker, Restrict}
 use Rattle.wt_morphism.specs.Images.{piece}
 use Rattle.wt_step.specs.Meaning.{pieces_of}
-use Rattle.wt_chain.specs.Growth.{image_of, is_along, stage, stages, origin, renaming_stage, turn, turns}
+use Rattle.wt_chain.specs.Growth.{image_of, is_along, stage, stages, origin, renaming_stage, turn, turn_stages}
 use Rattle.wt_chain.specs.Turns.{axis_of, image_under, image_through, renamed_back, turned, turned_times, single}
 
 -- Pieces and images.
@@ -217,22 +217,22 @@ turned_row axis loop renaming left g h =
     ∙ ap (last_row (stages axis loop left)) (renamed_row axis renaming g h)
 
 pub times_row : (axis : Axis) (loop : List RawLink) (renaming : List ℕ) (n : ℕ) (g : Grid) → IsGrid g
-    → row axis (turned_times loop renaming n g) ≡ last_row (turns axis loop renaming n) (row axis g)
+    → row axis (turned_times loop renaming n g) ≡ last_row (turn_stages axis loop renaming n) (row axis g)
 times_row axis loop renaming zero g h = refl
 times_row axis loop renaming (suc n) g h =
     times_row axis loop renaming n (turned loop renaming g) (turned_is_grid loop renaming g h)
-    ∙ turned_row axis loop renaming (turns axis loop renaming n) g h
+    ∙ turned_row axis loop renaming (turn_stages axis loop renaming n) g h
 
 one_width : (ss : List Stage) (t : ℕ) → length (last_row ss (t ∷ [])) ≡ width ss t
 one_width ss t = length_last ss (t ∷ []) ∙ (let e : total (width ss) (t ∷ []) ≡ width ss t = omega arith in e)
 
 -- the image of a tile after so many turns is as wide, and as high, as the stages of its axis say
-pub wide : (loop : List RawLink) (renaming : List ℕ) (n t : ℕ) → (turned_times loop renaming n (single t)).width ≡ width (turns One loop renaming n) t
+pub wide : (loop : List RawLink) (renaming : List ℕ) (n t : ℕ) → (turned_times loop renaming n (single t)).width ≡ width (turn_stages One loop renaming n) t
 wide loop renaming n t =
     sym (row_long One (turned_times loop renaming n (single t)))
-    ∙ (ap length (times_row One loop renaming n (single t) (record { wide = omega arith; high = omega arith; whole = refl })) ∙ one_width (turns One loop renaming n) t)
+    ∙ (ap length (times_row One loop renaming n (single t) (record { wide = omega arith; high = omega arith; whole = refl })) ∙ one_width (turn_stages One loop renaming n) t)
 
-pub high : (loop : List RawLink) (renaming : List ℕ) (n t : ℕ) → (turned_times loop renaming n (single t)).height ≡ width (turns Two loop renaming n) t
+pub high : (loop : List RawLink) (renaming : List ℕ) (n t : ℕ) → (turned_times loop renaming n (single t)).height ≡ width (turn_stages Two loop renaming n) t
 high loop renaming n t =
     sym (row_long Two (turned_times loop renaming n (single t)))
-    ∙ (ap length (times_row Two loop renaming n (single t) (record { wide = omega arith; high = omega arith; whole = refl })) ∙ one_width (turns Two loop renaming n) t)
+    ∙ (ap length (times_row Two loop renaming n (single t) (record { wide = omega arith; high = omega arith; whole = refl })) ∙ one_width (turn_stages Two loop renaming n) t)

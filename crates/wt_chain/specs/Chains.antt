@@ -6,7 +6,7 @@ use Rattle.wt_chain.specs.declared.raw.Version.{Version}
 use Rattle.wt_chain.specs.declared.push.PushFault.{PushFault}
 use Rattle.wt_chain.specs.declared.push.PushFault.TheVariants.{NotNext, TooMany}
 use Rattle.wt_chain.specs.Versions.{version_of}
-use Rattle.wt_chain.specs.Sets.{comes_next, behind}
+use Rattle.wt_chain.specs.Sets.{comes_next, set_behind}
 use Rattle.wt_chain.specs.Faults.{steps_fault}
 
 -- 1 to 32 good steps, each of which takes apart the set before it, with the version that has them
@@ -19,4 +19,4 @@ pub record IsOpen (links : List RawLink) (version : Version) : Type 0 where
 -- why a step can't be put behind these
 abbrev pub push_fault : List RawLink → RawLink → Option PushFault
 push_fault links link =
-    if comes_next (behind links) link then (if nat_lt (length links) 32 then None else Some TooMany) else Some NotNext
+    if comes_next (set_behind links) link then (if nat_lt (length links) 32 then None else Some TooMany) else Some NotNext

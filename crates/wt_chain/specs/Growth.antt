@@ -47,10 +47,10 @@ abbrev pub turn : Axis → List RawLink → List ℕ → List Stage → List Sta
 turn axis loop renaming left = renaming_stage renaming ∷ stages axis loop left
 
 -- so many turns
-abbrev pub turns : Axis → List RawLink → List ℕ → ℕ → List Stage
-turns axis loop renaming zero = []
-turns axis loop renaming (suc n) = turn axis loop renaming (turns axis loop renaming n)
+abbrev pub turn_stages : Axis → List RawLink → List ℕ → ℕ → List Stage
+turn_stages axis loop renaming zero = []
+turn_stages axis loop renaming (suc n) = turn axis loop renaming (turn_stages axis loop renaming n)
 
 -- after so many turns the image of tile t is at least two wide and two high
 abbrev pub has_grown : List RawLink → List ℕ → ℕ → ℕ → Bool
-has_grown loop renaming n t = nat_le 2 (width (turns One loop renaming n) t) && nat_le 2 (width (turns Two loop renaming n) t)
+has_grown loop renaming n t = nat_le 2 (width (turn_stages One loop renaming n) t) && nat_le 2 (width (turn_stages Two loop renaming n) t)

@@ -52,9 +52,9 @@ abbrev pub set_at : List RawLink → ℕ → Option TileList
 set_at links level = if nat_lt level (length links) then option_map fine_of (slice_get links level) else option_map coarse_of (slice_get links (level - 1))
 
 -- the set behind the last step, where there is one
-abbrev pub behind : List RawLink → Option TileList
-behind [] = None
-behind (link ∷ links) = Some (last_set (coarse_of link) links)
+abbrev pub set_behind : List RawLink → Option TileList
+set_behind [] = None
+set_behind (link ∷ links) = Some (last_set (coarse_of link) links)
 
 -- there is a step, and the renaming leads from the last set to the first
 abbrev pub IsRenamed : List RawLink → List ℕ → Type 0

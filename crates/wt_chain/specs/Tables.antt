@@ -9,8 +9,8 @@ use Rattle.wt_step.specs.declared.raw.RawLink.{RawLink}
 use Rattle.wt_chain.specs.Growth.{image_of, is_along, origin}
 
 -- the entries of 256 tiles
-abbrev pub table : {A : Type 0} → (ℕ → A) → List A
-table f = map f (range_with_len 0 256)
+abbrev pub entries_of : {A : Type 0} → (ℕ → A) → List A
+entries_of f = map f (range_with_len 0 256)
 
 abbrev pub entry : List Bool → ℕ → Bool
 entry rows t = slice_index_or rows t false
@@ -24,7 +24,7 @@ abbrev pub grows : Axis → RawLink → List Bool → ℕ → Bool
 grows axis link rows t = grows_by (is_along axis link) (image_of link t) rows
 
 unfoldable pub next_table : Axis → RawLink → List Bool → List Bool
-next_table axis link rows = table (grows axis link rows)
+next_table axis link rows = entries_of (grows axis link rows)
 
 abbrev pub climb : Axis → List RawLink → List Bool → List Bool
 climb axis [] rows = rows
@@ -34,7 +34,7 @@ abbrev pub origin_entry : List ℕ → List Bool → ℕ → Bool
 origin_entry renaming rows t = entry rows (origin renaming t)
 
 unfoldable pub renamed_table : List ℕ → List Bool → List Bool
-renamed_table renaming rows = table (origin_entry renaming rows)
+renamed_table renaming rows = entries_of (origin_entry renaming rows)
 
 abbrev pub turns_table : Axis → List RawLink → List ℕ → ℕ → List Bool
 turns_table axis loop renaming zero = replicate 256 false

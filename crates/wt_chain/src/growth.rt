@@ -100,7 +100,7 @@ pub fn origin(renaming: &[u16], t: u16) -> u16
 /// For each tile the one that a renaming carries onto it.
 pub fn origins(renaming: &[u16]) -> [u16; 256]
     requires { length renaming.now ≤ 256 }
-    ensures { result ≡ tables.table (growth.origin renaming.now) }
+    ensures { result ≡ tables.entries_of (growth.origin renaming.now) }
 {
     let mut origins = [0u16; 256];
     for t in 0..256u16 {
@@ -117,7 +117,7 @@ fn origin_entry(origins: &[u16; 256], rows: &[bool; 256], t: usize) -> bool
 }
 
 fn renamed(renaming: &[u16], origins: &[u16; 256], rows: &[bool; 256]) -> [bool; 256]
-    requires { origins.now ≡ tables.table (growth.origin renaming.now) }
+    requires { origins.now ≡ tables.entries_of (growth.origin renaming.now) }
     ensures { result ≡ renamed_table renaming.now rows.now }
 {
     let mut next = [false; 256];
@@ -183,7 +183,7 @@ fn next_turn(
     origins: &[u16; 256],
     rows: &[bool; 256],
 ) -> [bool; 256]
-    requires { origins.now ≡ tables.table (growth.origin renaming.now) }
+    requires { origins.now ≡ tables.entries_of (growth.origin renaming.now) }
     ensures { result ≡ renamed_table renaming.now (tables.climb axis links.now rows.now) }
 {
     renamed(renaming, origins, &climb(axis, links, rows))

@@ -3,7 +3,7 @@ ghost use Rattle.std.specs.Prelude.{◌≡◌, ◌∷◌, option_map};
 ghost use Rattle.std.specs.Cmp.Lexicographic.{pointwise};
 ghost use Rattle.std.specs.Str.{bytes_eq};
 ghost use Rattle.wt_step.specs.Links.{fine_of, coarse_of};
-ghost use Rattle.wt_chain.specs.Sets.{behind};
+ghost use Rattle.wt_chain.specs.Sets.{set_behind};
 ghost use Rattle.wt_chain.specs.Sets as spec;
 
 use wt_step::RawLink;
@@ -79,7 +79,7 @@ pub fn last_set<'a>(first: &'a TileList, links: &'a [RawLink]) -> &'a TileList
 
 /// The set behind the last step, where there is one.
 pub fn set_behind_all(links: &[RawLink]) -> Option<&TileList>
-    ensures { option_map (λ set. set.now) result ≡ behind links.now }
+    ensures { option_map (λ set. set.now) result ≡ set_behind links.now }
 {
     match links {
         [] => None,

@@ -6,7 +6,7 @@ use Rattle.wt_grid.specs.declared.axis.Side.{Side}
 use Rattle.wt_grid.specs.declared.axis.Axis.{Axis}
 use Rattle.std.proofs.lemmas.List.{get_or-drop, length-drop}
 use Rattle.wt_grid.specs.Lines.{IsGood, IsImage, AllLong}
-use Rattle.wt_grid.specs.Cuts.{cut, table}
+use Rattle.wt_grid.specs.Cuts.{cut, step_table}
 use Rattle.wt_grid.specs.Grid.{Grid, IsGrid, along, across, at, lines}
 use Rattle.wt_grid.specs.Parts.{core, IsValid}
 use Rattle.wt_grid.specs.Shifts.{Same, Meets, Repeats, IsRepeated}
@@ -111,7 +111,7 @@ length_take (suc d) [] lt = absurd (omega arith)
 length_take (suc d) (x ∷ xs) lt = ap suc (length_take d xs (omega arith))
 
 module _ (axis : Axis) (side : Side) (allows : Axis → ℕ → ℕ → Bool) (marker : ℕ → Bool) (im : List Image)
-    (good : IsGood (table side (allows axis) (allows (other axis)) marker im)) where
+    (good : IsGood (step_table side (allows axis) (allows (other axis)) marker im)) where
   pub carried_grid : (c q : Grid) (d a b : ℕ) → IsValid allows c → IsGrid q → IsImage im (lines axis q) (cut side marker (lines axis c))
       → d + 3 ≤ along axis c → a < across axis c → b < across axis c → IsRepeated axis d a b c → (n : ℕ) × IsCarried axis im d a b q n
   carried_grid c q d a b v g i le la lb h =

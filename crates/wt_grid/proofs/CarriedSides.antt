@@ -8,7 +8,7 @@ use Rattle.std.proofs.lemmas.List.{take-append-drop, get_or-drop, length-drop, g
 use Rattle.std.proofs.lemmas.Option.{get_or_from_slice_get}
 use Rattle.std.proofs.Math.Seq.{drop-append_seam, take-append_seam}
 use Rattle.wt_grid.specs.Lines.{IsGood, IsAcross, IsField, Singles, Pairs, IsImage, is_marker_line, AllLong, Shift}
-use Rattle.wt_grid.specs.Cuts.{backwards, opposite, cut_front, cut_lines, cut, flip, table}
+use Rattle.wt_grid.specs.Cuts.{backwards, opposite, cut_front, cut_lines, cut, flip, step_table}
 use Rattle.wt_grid.specs.Shifts.{Same, Meets, Repeats, fill}
 use Rattle.wt_grid.specs.Images.{piece_at, first_tile, last_tile, is_pair, firsts, lasts, is_double, line_image, image_lines, IsEvenLine, IsEven}
 use Rattle.wt_grid.proofs.Grids.{long_coarse, filled_long}
@@ -283,10 +283,10 @@ long_take m (suc d) (u ∷ ls) h = (h.0, long_take m d ls h.1)
 abbrev pub Carried : List Image → ℕ → ℕ → ℕ → List (List ℕ) → ℕ → Type 0
 Carried im a b d qs n = (n ≤ length qs) × Repeats a b n qs × ((k : ℕ) → k + n ≤ length qs → length (image_lines im (take n (drop k qs))) ≡ d)
 
-carry_after : (al ac : ℕ → ℕ → Bool) (marker : ℕ → Bool) (im : List Image) → IsGood (table After al ac marker im) → (a b m d : ℕ) (ls qs : List (List ℕ)) → a < m → b < m → AllLong m ls → IsField al ac ls
+carry_after : (al ac : ℕ → ℕ → Bool) (marker : ℕ → Bool) (im : List Image) → IsGood (step_table After al ac marker im) → (a b m d : ℕ) (ls qs : List (List ℕ)) → a < m → b < m → AllLong m ls → IsField al ac ls
     → d + 3 ≤ length ls → Repeats a b d ls → IsImage im qs (cut_lines marker ls) → (n : ℕ) × Carried im a b d qs n
 carry_after al ac marker im good a b m d ls qs la lb l f le s i =
-    let t = table After al ac marker im in
+    let t = step_table After al ac marker im in
     let Single : 1 ≤ m = omega arith in
     let r = carry_cut t good a b ls qs d (filled_long m ls Single l) (all_fit al ac a b m ls la lb l f) f le s i in
     let lq : AllLong m qs = long_coarse im m qs (cut_lines marker ls) i (cut_long After m marker ls l) in
@@ -315,7 +315,7 @@ take_rest zero (x ∷ xs) le = absurd (let h : suc (length xs) ≤ 0 = le in ome
 take_rest (suc n) [] le = refl
 take_rest (suc n) (x ∷ xs) le = ap (λ (ys : List (List ℕ)). x ∷ ys) (take_rest n xs (omega arith))
 
-carry_before : (al ac : ℕ → ℕ → Bool) (marker : ℕ → Bool) (im : List Image) → IsGood (table Before al ac marker im) → (a b m d : ℕ) (ls qs : List (List ℕ)) → a < m → b < m → AllLong m ls → IsField al ac ls
+carry_before : (al ac : ℕ → ℕ → Bool) (marker : ℕ → Bool) (im : List Image) → IsGood (step_table Before al ac marker im) → (a b m d : ℕ) (ls qs : List (List ℕ)) → a < m → b < m → AllLong m ls → IsField al ac ls
     → d + 3 ≤ length ls → Repeats a b d ls → IsImage im qs (cut Before marker ls) → (n : ℕ) × Carried im a b d qs n
 carry_before al ac marker im good a b m d ls qs la lb l f le s i =
     let om = map flip im in
@@ -341,7 +341,7 @@ carry_before al ac marker im good a b m d ls qs la lb l f le s i =
     (n, (few, rep, λ k' lk. fill_image im (take n (drop k' qs)) ∙ (windows (size im) n k' qs lk large ∙ total)))
 
 -- A period of the lines of a core is a period of its blocks.
-pub carry : (side : Side) (al ac : ℕ → ℕ → Bool) (marker : ℕ → Bool) (im : List Image) → IsGood (table side al ac marker im) → (a b m d : ℕ) (ls qs : List (List ℕ)) → a < m → b < m → AllLong m ls → IsField al ac ls
+pub carry : (side : Side) (al ac : ℕ → ℕ → Bool) (marker : ℕ → Bool) (im : List Image) → IsGood (step_table side al ac marker im) → (a b m d : ℕ) (ls qs : List (List ℕ)) → a < m → b < m → AllLong m ls → IsField al ac ls
     → d + 3 ≤ length ls → Repeats a b d ls → IsImage im qs (cut side marker ls) → (n : ℕ) × Carried im a b d qs n
 carry After al ac marker im good a b m d ls qs la lb l f le s i = carry_after al ac marker im good a b m d ls qs la lb l f le s i
 carry Before al ac marker im good a b m d ls qs la lb l f le s i = carry_before al ac marker im good a b m d ls qs la lb l f le s i

@@ -3,7 +3,7 @@ use Rattle.std.proofs.Common.{arith, ◌≡◌, ◌⊎◌, ◌<◌, ℕ, List, B
 use Rattle.std.proofs.lemmas.Bool.Decides.{nat_tests}
 use Rattle.wt_grid.specs.Order.{in_order, IsSplit}
 use Rattle.wt_grid.proofs.Order.{split, both}
-use Rattle.wt_grid.specs.Pairs.{pair_before, is_pair, pairs_follow, pair_fits}
+use Rattle.wt_grid.specs.Pairs.{pair_before, is_this_pair, pairs_follow, pair_fits}
 
 -- by a number, and where that is the same by p
 abbrev pub first_by : ℕ → ℕ → Bool → Bool
@@ -66,11 +66,11 @@ less_apart x y e = grind (arith, nat_tests)
 pub pairs_onward : (a b : ℕ) (x y : ℕ × ℕ) → pairs_follow x y ≡ true → pair_before a b y ≡ true → pair_before a b x ≡ true
 pairs_onward a b x y e f = by_both x.0 y.0 a (nat_lt x.1 y.1) (nat_lt y.1 b) (nat_lt x.1 b) e f (less_both x.1 y.1 b)
 
-pub pairs_up_to : (a b : ℕ) (x y : ℕ × ℕ) → pairs_follow x y ≡ true → is_pair a b y ≡ true → pair_before a b x ≡ true
+pub pairs_up_to : (a b : ℕ) (x y : ℕ × ℕ) → pairs_follow x y ≡ true → is_this_pair a b y ≡ true → pair_before a b x ≡ true
 pairs_up_to a b x y e f = by_hit x.0 y.0 a (nat_lt x.1 y.1) (nat_eq y.1 b) (nat_lt x.1 b) e f (less_hit x.1 y.1 b)
 
-pub pairs_apart : (a b : ℕ) (x : ℕ × ℕ) → pair_before a b x ≡ true → is_pair a b x ≡ false
+pub pairs_apart : (a b : ℕ) (x : ℕ × ℕ) → pair_before a b x ≡ true → is_this_pair a b x ≡ false
 pairs_apart a b x e = by_apart x.0 a (nat_lt x.1 b) (nat_eq x.1 b) e (less_apart x.1 b)
 
-pub pairs_split : (n a b : ℕ) (ps : List (ℕ × ℕ)) → in_order (pair_fits n) pairs_follow ps ≡ true → IsSplit (pair_before a b) (is_pair a b) ps
-pairs_split n a b ps e = split (pair_before a b) (is_pair a b) (pair_fits n) pairs_follow (pairs_onward a b) (pairs_up_to a b) (pairs_apart a b) ps e
+pub pairs_split : (n a b : ℕ) (ps : List (ℕ × ℕ)) → in_order (pair_fits n) pairs_follow ps ≡ true → IsSplit (pair_before a b) (is_this_pair a b) ps
+pairs_split n a b ps e = split (pair_before a b) (is_this_pair a b) (pair_fits n) pairs_follow (pairs_onward a b) (pairs_up_to a b) (pairs_apart a b) ps e

@@ -9,7 +9,7 @@ use Rattle.std.proofs.lemmas.Option.{slice_get-map}
 use Rattle.wt_grid.specs.Lines.{IsGood, IsField, IsImage, AllFilled, is_marker_line, cut_end}
 use Rattle.wt_grid.specs.Grid.{Grid, IsGrid, lines}
 use Rattle.wt_grid.proofs.Desub.{one_parse}
-use Rattle.wt_grid.specs.Cuts.{backwards, opposite, cut_front, cut_lines, cut, flip, table}
+use Rattle.wt_grid.specs.Cuts.{backwards, opposite, cut_front, cut_lines, cut, flip, step_table}
 use Rattle.wt_grid.proofs.Cut.{parse_cut, filled_cut, field_cut, length_cut}
 use Rattle.wt_grid.proofs.Backwards.{backwards_twice, length-backwards, field_backwards, filled_backwards, AreOpposite, image_backwards}
 use Rattle.wt_grid.specs.Grid.{of_lines}
@@ -41,22 +41,22 @@ unflipped im = record {
   twos = λ i a b e. back_two (slice_get im i) a b (sym (slice_get-map flip im i) ∙ e);
 }
 
-pub some_coarse : (side : Side) (al ac : ℕ → ℕ → Bool) (marker : ℕ → Bool) (im : List Image) → IsGood (table side al ac marker im)
+pub some_coarse : (side : Side) (al ac : ℕ → ℕ → Bool) (marker : ℕ → Bool) (im : List Image) → IsGood (step_table side al ac marker im)
     → (ls : List (List ℕ)) → AllFilled ls → IsField al ac ls → (qs : List (List ℕ)) × IsImage im qs (cut side marker ls)
-some_coarse After al ac marker im good ls n f = parse_cut (table After al ac marker im) good ls n f
+some_coarse After al ac marker im good ls n f = parse_cut (step_table After al ac marker im) good ls n f
 some_coarse Before al ac marker im good ls n f =
-    let r = parse_cut (table Before al ac marker im) good (backwards ls) (filled_backwards ls n) (field_backwards al ac ls f) in
+    let r = parse_cut (step_table Before al ac marker im) good (backwards ls) (filled_backwards ls n) (field_backwards al ac ls f) in
     (backwards r.0, image_backwards (map flip im) im (unflipped im) r.0 (cut_lines marker (backwards ls)) r.1)
 
-pub one_coarse : (side : Side) (al ac : ℕ → ℕ → Bool) (marker : ℕ → Bool) (im : List Image) → IsGood (table side al ac marker im)
+pub one_coarse : (side : Side) (al ac : ℕ → ℕ → Bool) (marker : ℕ → Bool) (im : List Image) → IsGood (step_table side al ac marker im)
     → (ls qs rs : List (List ℕ)) → AllFilled ls → IsImage im qs (cut side marker ls) → IsImage im rs (cut side marker ls) → qs ≡ rs
-one_coarse After al ac marker im good ls qs rs n i j = one_parse (table After al ac marker im) good (cut_lines marker ls) qs rs (filled_cut marker ls n) i j
+one_coarse After al ac marker im good ls qs rs n i j = one_parse (step_table After al ac marker im) good (cut_lines marker ls) qs rs (filled_cut marker ls n) i j
 one_coarse Before al ac marker im good ls qs rs n i j =
     let L = cut_lines marker (backwards ls) in
     let P : List (List ℕ) → List (List ℕ) → Type 0 = λ xs ys. IsImage (map flip im) xs ys in
     let i' = subst (P (backwards qs)) (backwards_twice L) (image_backwards im (map flip im) (flipped im) qs (backwards L) i) in
     let j' = subst (P (backwards rs)) (backwards_twice L) (image_backwards im (map flip im) (flipped im) rs (backwards L) j) in
-    let e = one_parse (table Before al ac marker im) good L (backwards qs) (backwards rs) (filled_cut marker (backwards ls) (filled_backwards ls n)) i' j' in
+    let e = one_parse (step_table Before al ac marker im) good L (backwards qs) (backwards rs) (filled_cut marker (backwards ls) (filled_backwards ls n)) i' j' in
     sym (backwards_twice qs) ∙ (ap backwards e ∙ backwards_twice rs)
 
 pub cut_field : (side : Side) (f g : ℕ → ℕ → Bool) (marker : ℕ → Bool) (ls : List (List ℕ)) → IsField f g ls → IsField f g (cut side marker ls)

@@ -13,7 +13,7 @@ use Rattle.wt_grid.specs.Grid.{Grid, cell, IsGrid, along, across, at, listed, li
 use Rattle.wt_grid.proofs.Bridge.{length-listed, get_or-listed}
 use Rattle.wt_grid.proofs.Coarse.{first, last, MatchAcross, coarse_field}
 use Rattle.wt_grid.specs.Images.{LineBelow, LinesBelow}
-use Rattle.wt_grid.specs.Cuts.{cut, table}
+use Rattle.wt_grid.specs.Cuts.{cut, step_table}
 use Rattle.wt_grid.specs.Parts.{AllBelow, IsValid}
 use Rattle.wt_grid.proofs.Law.{some_coarse, one_coarse, cut_field, cut_length, cut_long, coarse_grid}
 use Rattle.wt_grid.proofs.Grids.{long_lines, length_lines, filled_long, field_lines, lines_field}
@@ -109,7 +109,7 @@ below_lines One n g h = λ x y lx ly. at_below One n g h x y lx ly
 below_lines Two n g h = λ x y lx ly. at_below Two n g h y x ly lx
 
 module _ (axis : Axis) (side : Side) (allows fine coarse : Axis → ℕ → ℕ → Bool) (marker : ℕ → Bool) (im : List Image)
-    (good : IsGood (table side (allows axis) (allows (other axis)) marker im))
+    (good : IsGood (step_table side (allows axis) (allows (other axis)) marker im))
     (joins : (i j : ℕ) (p r : Image) → slice_get im i ≡ Some p → slice_get im j ≡ Some r → fine axis (last p) (first r) ≡ true → coarse axis i j ≡ true)
     (stacks : (i j : ℕ) (p r : Image) → slice_get im i ≡ Some p → slice_get im j ≡ Some r → MatchAcross (fine (other axis)) p r → coarse (other axis) i j ≡ true) where
   -- the coarse rectangle of a core

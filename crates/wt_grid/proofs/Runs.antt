@@ -8,7 +8,7 @@ use Rattle.wt_grid.specs.Lines.{Table, IsGood, IsImage, AllFilled, is_marker_lin
 use Rattle.wt_grid.proofs.Desub.{block_begins, pair_ends, not_both, one_singles, one_pairs}
 use Rattle.wt_grid.proofs.Others.{split}
 use Rattle.wt_grid.proofs.Periods.{front}
-use Rattle.wt_grid.specs.Cuts.{backwards, cut_front, cut_lines, cut, flip, table, all_but_last, closed, Fills}
+use Rattle.wt_grid.specs.Cuts.{backwards, cut_front, cut_lines, cut, flip, step_table, all_but_last, closed, Fills}
 use Rattle.wt_grid.proofs.Backwards.{backwards_twice, backwards_append, filled_backwards, image_backwards}
 use Rattle.wt_grid.proofs.Law.{flipped, unflipped}
 
@@ -100,13 +100,13 @@ three_backwards : (xs ys zs : List (List ℕ)) → backwards (xs ++ (ys ++ zs)) 
 three_backwards xs ys zs = backwards_append xs (ys ++ zs) ∙ (ap (λ (ws : List (List ℕ)). ws ++ backwards xs) (backwards_append ys zs) ∙ append_assoc (backwards zs) (backwards ys) (backwards xs))
 
 -- All coarse lines of a run but the one at the open end are coarse lines of the whole, at the same lines.
-pub same_blocks : (side : Side) (al ac : ℕ → ℕ → Bool) (marker : ℕ → Bool) (im : List Image) → IsGood (table side al ac marker im)
+pub same_blocks : (side : Side) (al ac : ℕ → ℕ → Bool) (marker : ℕ → Bool) (im : List Image) → IsGood (step_table side al ac marker im)
     → (fs run back qs : List (List ℕ)) (q : List ℕ) (rs : List (List ℕ)) → AllFilled run → IsImage im (q ∷ rs) run → IsImage im qs (cut side marker (fs ++ (run ++ back)))
     → (qa : List (List ℕ)) × (qb : List (List ℕ)) × (qs ≡ qa ++ (closed side (q ∷ rs) ++ qb)) × Fills side marker im qa qb fs back
 same_blocks After al ac marker im good fs run back qs q rs f i j =
     let l = last_of q rs in
     let P : List (List ℕ) → Type 0 = λ xs. IsImage im xs run in
-    in_whole (table After al ac marker im) good fs run back (all_but_last (q ∷ rs)) l.0 qs f (subst P l.1 i) j
+    in_whole (step_table After al ac marker im) good fs run back (all_but_last (q ∷ rs)) l.0 qs f (subst P l.1 i) j
 same_blocks Before al ac marker im good fs run back qs q rs f i j =
     let om = map flip im in
     let L = cut_lines marker (backwards (fs ++ (run ++ back))) in
@@ -114,7 +114,7 @@ same_blocks Before al ac marker im good fs run back qs q rs f i j =
     let j1 = subst P (backwards_twice L) (image_backwards im om (flipped im) qs (backwards L) j) in
     let j2 = subst P (ap (cut_lines marker) (three_backwards fs run back)) j1 in
     let i1 = image_backwards im om (flipped im) (q ∷ rs) run i in
-    let r = in_whole (table Before al ac marker im) good (backwards back) (backwards run) (backwards fs) (backwards rs) q (backwards qs) (filled_backwards run f) i1 j2 in
+    let r = in_whole (step_table Before al ac marker im) good (backwards back) (backwards run) (backwards fs) (backwards rs) q (backwards qs) (filled_backwards run f) i1 j2 in
     let e : qs ≡ backwards r.1 ++ (rs ++ backwards r.0) =
     sym (backwards_twice qs) ∙ (ap backwards r.2 ∙ (three_backwards r.0 (backwards rs) r.1 ∙ ap (λ (ws : List (List ℕ)). backwards r.1 ++ (ws ++ backwards r.0)) (backwards_twice rs))) in
     (backwards r.1, backwards r.0, e, image_backwards om im (unflipped im) r.0 (cut_front marker (backwards back)) r.3)
@@ -130,7 +130,7 @@ filled_before ([] ∷ ls) back h = absurd h
 filled_before ((a ∷ as') ∷ ls) back h = filled_before ls back h
 
 -- the same, for coarse lines of which there is one
-pub same_blocks_of : (side : Side) (al ac : ℕ → ℕ → Bool) (marker : ℕ → Bool) (im : List Image) → IsGood (table side al ac marker im)
+pub same_blocks_of : (side : Side) (al ac : ℕ → ℕ → Bool) (marker : ℕ → Bool) (im : List Image) → IsGood (step_table side al ac marker im)
     → (ls fs run back qs rs : List (List ℕ)) → AllFilled ls → ls ≡ fs ++ (run ++ back) → 1 ≤ length rs → IsImage im rs run → IsImage im qs (cut side marker ls)
     → (qa : List (List ℕ)) × (qb : List (List ℕ)) × (qs ≡ qa ++ (closed side rs ++ qb)) × Fills side marker im qa qb fs back
 same_blocks_of side al ac marker im good ls fs run back qs [] f e some i j = absurd (omega arith)

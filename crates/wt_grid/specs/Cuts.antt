@@ -33,9 +33,9 @@ flip (Single a) = Single a
 flip (Double a b) = Double b a
 
 -- what a step allows, read towards the markers
-abbrev pub table : Side → (ℕ → ℕ → Bool) → (ℕ → ℕ → Bool) → (ℕ → Bool) → List Image → Table
-table After along across marker images = record { marker = marker; along = along; across = across; images = images }
-table Before along across marker images = record { marker = marker; along = opposite along; across = across; images = map flip images }
+abbrev pub step_table : Side → (ℕ → ℕ → Bool) → (ℕ → ℕ → Bool) → (ℕ → Bool) → List Image → Table
+step_table After along across marker images = record { marker = marker; along = along; across = across; images = images }
+step_table Before along across marker images = record { marker = marker; along = opposite along; across = across; images = map flip images }
 
 abbrev pub all_but_last : List (List ℕ) → List (List ℕ)
 all_but_last [] = []

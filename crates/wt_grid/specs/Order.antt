@@ -2,8 +2,8 @@
 use Rattle.std.specs.Prelude.{ℕ, ◌≡◌, ◌⊎◌, List, [], ◌∷◌, Option, None, Some, Bool, true, false, ◌&&◌, ◌||◌, not, nat_lt, if◌then◌else◌}
 use Rattle.wt_grid.specs.First.{or_else}
 
-abbrev pub follows : ℕ → ℕ → Bool
-follows a b = nat_lt a b
+abbrev pub comes_before : ℕ → ℕ → Bool
+comes_before a b = nat_lt a b
 
 -- x comes before the first of the others
 abbrev pub leads : {A : Type 0} → (A → A → Bool) → A → List A → Bool

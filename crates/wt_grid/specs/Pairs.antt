@@ -5,8 +5,8 @@ use Rattle.std.specs.Prelude.{ℕ, Bool, ◌&&◌, ◌||◌, nat_eq, nat_lt}
 abbrev pub pair_before : ℕ → ℕ → ℕ × ℕ → Bool
 pair_before a b p = nat_lt p.0 a || (nat_eq p.0 a && nat_lt p.1 b)
 
-abbrev pub is_pair : ℕ → ℕ → ℕ × ℕ → Bool
-is_pair a b p = nat_eq p.0 a && nat_eq p.1 b
+abbrev pub is_this_pair : ℕ → ℕ → ℕ × ℕ → Bool
+is_this_pair a b p = nat_eq p.0 a && nat_eq p.1 b
 
 abbrev pub pairs_follow : ℕ × ℕ → ℕ × ℕ → Bool
 pairs_follow p q = pair_before q.0 q.1 p

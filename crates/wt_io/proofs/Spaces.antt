@@ -3,15 +3,15 @@ use Rattle.std.proofs.Common.{arith, ◌≡◌, ◌≤◌, ◌-◌, ℕ, ◌+◌
 use Rattle.std.specs.Prelude.{count_by}
 use Rattle.std.proofs.lemmas.List.Recursion.{is_count_by}
 use Rattle.wt_text.specs.Words.{tokens, in_first}
-use Rattle.wt_text.specs.Spellings.{IsSome}
+use Rattle.wt_text.specs.Spellings.{IsNotEmpty}
 use Rattle.wt_text.proofs.Split.{some_tokens}
 
 -- a byte of the first token makes no token
-length-in_first : (b : ℕ) (ts : List (List ℕ)) → IsSome ts → length (in_first b ts) ≡ length ts
+length-in_first : (b : ℕ) (ts : List (List ℕ)) → IsNotEmpty ts → length (in_first b ts) ≡ length ts
 length-in_first b [] s = absurd s
 length-in_first b (t ∷ ts) s = refl
 
-at_least_one : (ts : List (List ℕ)) → IsSome ts → 1 ≤ length ts
+at_least_one : (ts : List (List ℕ)) → IsNotEmpty ts → 1 ≤ length ts
 at_least_one [] s = absurd s
 at_least_one (t ∷ ts) s = omega arith
 

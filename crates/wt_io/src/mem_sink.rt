@@ -2,7 +2,7 @@
 ghost use Rattle.std.specs.Prelude.{◌≡◌, length, ◌<◌, ◌≤◌, min, ◌-◌, ◌+◌, IfOk, []};
 ghost use Rattle.std.specs.Io.{WritesAtMost};
 ghost use Rattle.std.specs.Io.KnownBytes.{WriteAppends};
-ghost use Rattle.wt_io.specs.Causes.{HasCause, Progresses, count_after, one_more};
+ghost use Rattle.wt_io.specs.Causes.{HasCause, Progresses, count_after, next_count};
 
 use crate::{Failed, Sink};
 use std::alloc::{AllocError, Global};
@@ -79,7 +79,7 @@ impl Sink for MemSink {
         ensures cause { HasCause self.old.faults self.new.faults result }
         ensures fails { IsErr result ↔ ((0 < length buf.now) × (Contains self.old.fail self.old.calls ⊎ (length self.old.held ≡ self.old.room))) }
         ensures count { IfOk result (λ n. n ≡ min (length buf.now) (min self.old.piece (self.old.room - length self.old.held))) }
-        ensures calls { self.new.calls ≡ one_more self.old.calls }
+        ensures calls { self.new.calls ≡ next_count self.old.calls }
         ensures counted { self.new.faults ≡ count_after self.old.faults result }
         ensures same { (self.new.fail ≡ self.old.fail) × (self.new.piece ≡ self.old.piece) × (self.new.room ≡ self.old.room) }
     {

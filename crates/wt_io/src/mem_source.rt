@@ -2,7 +2,7 @@
 ghost use Rattle.std.specs.Prelude.{◌≡◌, length, ◌<◌, ◌≤◌, min, ◌-◌, ◌+◌};
 ghost use Rattle.std.specs.Io.{ReadsAtMost};
 ghost use Rattle.std.specs.Io.KnownBytes.{ReadConsumes};
-ghost use Rattle.wt_io.specs.Causes.{HasCause, count_after, one_more};
+ghost use Rattle.wt_io.specs.Causes.{HasCause, count_after, next_count};
 
 use crate::{Failed, Source};
 use std::marker::Model;
@@ -111,7 +111,7 @@ impl Source for MemSource {
         ensures cause { HasCause self.old.faults self.new.faults result }
         ensures fails { IsErr result ↔ Contains self.old.fail self.old.calls }
         ensures count { IfOk result (λ n. n ≡ min (length buf.new) (min self.old.piece (length self.old.left))) }
-        ensures calls { self.new.calls ≡ one_more self.old.calls }
+        ensures calls { self.new.calls ≡ next_count self.old.calls }
         ensures counted { self.new.faults ≡ count_after self.old.faults result }
         ensures same { (self.new.fail ≡ self.old.fail) × (self.new.piece ≡ self.old.piece) }
     {

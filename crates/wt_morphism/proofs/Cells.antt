@@ -16,7 +16,7 @@ use Rattle.wt_grid.proofs.Bridge.{length-listed, get_or-listed, cell_of}
 use Rattle.wt_morphism.specs.declared.image.Morphism.{Morphism}
 use Rattle.wt_morphism.specs.declared.laid.Strand.{Strand}
 use Rattle.wt_morphism.specs.Images.{piece, pieces, image, is_two}
-use Rattle.wt_morphism.specs.Strands.{strands, line_is_two, all_strands, tile_of, strand_cell, strand_at, turned, laid, laid_row, laid_index}
+use Rattle.wt_morphism.specs.Strands.{strands, line_is_two, all_strands, tile_of, strand_cell, strand_at, line_and_place, laid, laid_row, laid_index}
 
 -- the pieces of a table, tile by tile
 pub piece_of : (table : List Image) (tile : ℕ) → piece_at (map piece table) tile ≡ piece (piece_at table tile)
@@ -167,12 +167,12 @@ abbrev morphism : Axis → List Image → Morphism
 morphism axis table = record { axis = axis; table = table }
 
 within : (axis : Axis) (table : List Image) (p : Grid) (g : IsGrid p) (x y : ℕ) → x < (image (morphism axis table) p).width → y < (image (morphism axis table) p).height
-    → ((turned axis x y).0 < length (all_strands (morphism axis table) p)) × ((turned axis x y).1 < across axis p)
+    → ((line_and_place axis x y).0 < length (all_strands (morphism axis table) p)) × ((line_and_place axis x y).1 < across axis p)
 within One table p g x y lx ly = let n = count_all (morphism One table) p g in (omega arith, ly)
 within Two table p g x y lx ly = let n = count_all (morphism Two table) p g in (omega arith, lx)
 
 pub turned_within : (m : Morphism) (p : Grid) (g : IsGrid p) (x y : ℕ) → x < (image m p).width → y < (image m p).height
-    → ((turned m.axis x y).0 < length (all_strands m p)) × ((turned m.axis x y).1 < across m.axis p)
+    → ((line_and_place m.axis x y).0 < length (all_strands m p)) × ((line_and_place m.axis x y).1 < across m.axis p)
 turned_within m p g x y lx ly = within m.axis m.table p g x y lx ly
 
 -- a cell of the image

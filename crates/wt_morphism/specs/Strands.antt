@@ -35,13 +35,13 @@ abbrev pub strand_at : List Strand → ℕ → Strand
 strand_at ss i = slice_index_or ss i (record { line = 0; second = false })
 
 -- the line and the place in it of cell (x, y)
-abbrev pub turned : Axis → ℕ → ℕ → ℕ × ℕ
-turned One x y = (x, y)
-turned Two x y = (y, x)
+abbrev pub line_and_place : Axis → ℕ → ℕ → ℕ × ℕ
+line_and_place One x y = (x, y)
+line_and_place Two x y = (y, x)
 
 -- cell (x, y) of the image with these lines
 abbrev pub laid : Morphism → Grid → List Strand → ℕ → ℕ → ℕ
-laid m p ss x y = strand_cell m p (strand_at ss (turned m.axis x y).0) (turned m.axis x y).1
+laid m p ss x y = strand_cell m p (strand_at ss (line_and_place m.axis x y).0) (line_and_place m.axis x y).1
 
 -- row y of it, cell by cell
 abbrev pub laid_row : Morphism → Grid → List Strand → ℕ → ℕ → ℕ

@@ -97,8 +97,8 @@ fn tile_of(second: bool, image: Image) -> u16
 }
 
 /// The line and the place in it of cell (x, y).
-fn turned(axis: Axis, x: usize, y: usize) -> (usize, usize)
-    ensures { result ≡ strand_words.turned axis x y }
+fn line_and_place(axis: Axis, x: usize, y: usize) -> (usize, usize)
+    ensures { result ≡ strand_words.line_and_place axis x y }
 {
     match axis {
         Axis::One => (x, y),
@@ -109,11 +109,11 @@ fn turned(axis: Axis, x: usize, y: usize) -> (usize, usize)
 /// Cell (x, y) of the image with these lines.
 fn laid_cell(m: &Morphism, p: &Pattern, lines: &[Strand], x: usize, y: usize) -> u16
     requires lines { lines.now ≡ all_strands m.now p.now }
-    requires line { (strand_words.turned m.now.axis x y).0 < length lines.now }
-    requires cell { (strand_words.turned m.now.axis x y).1 < grid.across m.now.axis p.now }
+    requires line { (strand_words.line_and_place m.now.axis x y).0 < length lines.now }
+    requires cell { (strand_words.line_and_place m.now.axis x y).1 < grid.across m.now.axis p.now }
     ensures { result ≡ strand_words.laid m.now p.now lines.now x y }
 {
-    let (line, cell) = turned(m.axis, x, y);
+    let (line, cell) = line_and_place(m.axis, x, y);
     let strand = lines[line];
     let tile = at(m.axis, p, strand.line, cell);
     tile_of(strand.second, image_at(m.table.as_slice(), tile))

@@ -5,8 +5,8 @@ use Rattle.std.specs.Fmt.{decimal}
 use Rattle.wt_line.specs.declared.faults.What.{What}
 use Rattle.wt_line.specs.declared.faults.What.TheVariants.{Number}
 use Rattle.wt_text.specs.Lines.{Line}
-use Rattle.wt_text.specs.Readers.{◌>>=◌, joined, one_line}
-use Rattle.wt_text.specs.Spellings.{IsClean, AllFit, IsSome, number_spelling, line_spelling, FitInTurn}
+use Rattle.wt_text.specs.Readers.{◌>>=◌, value_in_front, one_line}
+use Rattle.wt_text.specs.Spellings.{IsClean, AllFit, IsNotEmpty, number_spelling, line_spelling, FitInTurn}
 use Rattle.wt_text.proofs.Formats.{IsFormat, IsLine, number_format, fit_line, bind_some, read_is, joined_ok}
 use Rattle.wt_text.proofs.Texts.{IsPart, line_part, many_part}
 use Rattle.wt_pattern.specs.TileRows.{no_state}
@@ -28,7 +28,7 @@ cells_found zero ts x rest e =
 cells_found (suc n) ts x rest e =
     let a = bind_some (cell_word ts) _ (Ok x, rest) e in
     let b = bind_some (times cell_word n a.0.1) _ (Ok x, rest) a.2 in
-    let p = read_is (joined a.0.0 b.0.0) (Ok x) b.0.1 rest b.2 in
+    let p = read_is (value_in_front a.0.0 b.0.0) (Ok x) b.0.1 rest b.2 in
     let j = joined_ok a.0.0 b.0.0 x p.0 in
     let f = cell_format.found ts j.0 a.0.1 (a.1 ∙ ap (λ (r : Result ℕ What). Some (r, a.0.1)) j.3) in
     let h = cells_found n a.0.1 j.1 rest (b.1 ∙ ap (λ (r : Result (List ℕ) What). Some (r, b.0.1)) j.4 ∙ ap (λ (r : List (List ℕ)). Some (Ok j.1, r)) p.1) in
@@ -50,7 +50,7 @@ cells_clean (c ∷ cs) fits = ((cell_format.clean c fits.0).0, cells_clean cs fi
 cells_format : (n : ℕ) → IsFormat (times cell_word n) cells_spelling (CellsFit n)
 cells_format n = record { found = cells_found n; again = cells_again n; clean = λ x fits. cells_clean x fits.1 }
 
-cells_some : (n : ℕ) → 1 ≤ n → (x : List ℕ) → CellsFit n x → IsSome (cells_spelling x)
+cells_some : (n : ℕ) → 1 ≤ n → (x : List ℕ) → CellsFit n x → IsNotEmpty (cells_spelling x)
 cells_some n le [] fits = let e : 0 ≡ n = fits.0 in absurd (omega (arith, e, le))
 cells_some n le (c ∷ cs) fits = tt
 

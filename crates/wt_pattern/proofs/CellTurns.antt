@@ -5,7 +5,7 @@ use Rattle.wt_line.specs.declared.faults.What.{What}
 use Rattle.wt_line.specs.declared.faults.LineFault.{LineFault}
 use Rattle.wt_line.specs.declared.faults.LineFault.TheVariants.{Wrong, Past, OutOfMemory}
 use Rattle.wt_line.specs.Faults.{NotRead, LineFails}
-use Rattle.wt_text.specs.Readers.{◌>>=◌, joined, judge}
+use Rattle.wt_text.specs.Readers.{◌>>=◌, value_in_front, judge}
 use Rattle.wt_pattern.specs.PatternRows.{times, cell_word}
 use Rattle.wt_pattern.specs.Cells.{one_more}
 
@@ -25,13 +25,13 @@ behind_cells front (Some x) = Some (led front x.0, x.1)
 abbrev pub cells_left : ℕ → Tokens → Option (Result (List ℕ) What × Tokens)
 cells_left n ts = times cell_word n ts
 
-led_joined : (front : Result (List ℕ) What) (a : Result ℕ What) (r : Result (List ℕ) What) → led front (joined a r) ≡ led (one_more front a) r
+led_joined : (front : Result (List ℕ) What) (a : Result ℕ What) (r : Result (List ℕ) What) → led front (value_in_front a r) ≡ led (one_more front a) r
 led_joined (Ok xs) (Ok a) (Ok ys) = ap (λ (l : List ℕ). Ok l) (sym (append_assoc xs (a ∷ []) ys))
 led_joined (Ok xs) (Ok a) (Err w) = refl
 led_joined (Ok xs) (Err v) r = refl
 led_joined (Err v) a r = refl
 
-regroup : (front : Result (List ℕ) What) (a : Result ℕ What) (r : Option (Result (List ℕ) What × Tokens)) → behind_cells front (r >>= λ x. Some (joined a x.0, x.1)) ≡ behind_cells (one_more front a) r
+regroup : (front : Result (List ℕ) What) (a : Result ℕ What) (r : Option (Result (List ℕ) What × Tokens)) → behind_cells front (r >>= λ x. Some (value_in_front a x.0, x.1)) ≡ behind_cells (one_more front a) r
 regroup front a None = refl
 regroup front a (Some x) = ap (λ (y : Result (List ℕ) What). Some (y, x.1)) (led_joined front a x.0)
 

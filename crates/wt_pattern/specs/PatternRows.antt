@@ -6,7 +6,7 @@ use Rattle.wt_line.specs.declared.faults.What.{What}
 use Rattle.wt_line.specs.declared.faults.What.TheVariants.{Width, Height, Number}
 use Rattle.wt_text.specs.Words.{number}
 use Rattle.wt_text.specs.Lines.{Line}
-use Rattle.wt_text.specs.Readers.{◌>>=◌, LineFault, TextFault, within, number_to, behind, both, whole, joined, one_line, many_parts, seen_as, part_by}
+use Rattle.wt_text.specs.Readers.{◌>>=◌, LineFault, TextFault, within, number_to, value_behind, both, whole, value_in_front, one_line, many_parts, seen_as, part_by}
 use Rattle.wt_text.specs.Spellings.{behind_spelling, both_spelling, number_spelling, line_spelling}
 use Rattle.wt_grid.specs.Grid.{Grid}
 use Rattle.wt_pattern.specs.TileRows.{no_state}
@@ -14,7 +14,7 @@ use Rattle.wt_pattern.specs.TileRows.{no_state}
 -- so many values one after the other
 abbrev pub times : {W A : Type 0} → (List (List ℕ) → Option (Result A W × List (List ℕ))) → ℕ → List (List ℕ) → Option (Result (List A) W × List (List ℕ))
 times read zero ts = Some (Ok [], ts)
-times read (suc n) ts = read ts >>= λ a. times read n a.1 >>= λ x. Some (joined a.0 x.0, x.1)
+times read (suc n) ts = read ts >>= λ a. times read n a.1 >>= λ x. Some (value_in_front a.0 x.0, x.1)
 
 -- a number of a tile, of any set
 abbrev pub cell_word : List (List ℕ) → Option (Result ℕ What × List (List ℕ))
@@ -47,7 +47,7 @@ side_word what (t ∷ ts) = number t >>= λ n. if nat_eq n 0 then None else Some
 
 -- pattern w h
 abbrev pub shape_form : List (List ℕ) → Result (ℕ × ℕ) (LineFault What)
-shape_form = whole (behind (codes "pattern") (both (side_word Width) (side_word Height)))
+shape_form = whole (value_behind (codes "pattern") (both (side_word Width) (side_word Height)))
 
 abbrev pub only_rows : (ℕ × ℕ) × Grid → Grid
 only_rows x = x.1

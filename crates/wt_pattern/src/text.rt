@@ -81,7 +81,7 @@ fn side_at(what: What, rest: Rest<'_>) -> Result<(Result<usize, What>, Rest<'_>)
     }
 }
 
-#[tactic(auto, unfolding(wt_text::specs::Readers::whole, wt_text::specs::Readers::both, wt_text::specs::Readers::behind))]
+#[tactic(auto, unfolding(wt_text::specs::Readers::whole, wt_text::specs::Readers::both, wt_text::specs::Readers::value_behind))]
 fn shape_of(line: &[u8]) -> Result<(usize, usize), LineFault>
     ensures read { ReadsLine (λ x. x) result (shape_form (tokens line.now)) }
     ensures wide { IfOk result (λ x. (1 ≤ x.0) × (x.0 ≤ MAX_SIDE)) }

@@ -8,7 +8,7 @@ ghost use Rattle.wt_refute.specs.Standard.{tree_within, standard_tree};
 
 use crate::check::{free_cells, place_pair};
 use crate::choice::{first_citation, tightest};
-use crate::window::fits;
+use crate::window::fits_cell;
 use crate::{Child, Refuted, Tree};
 use sqlite_items::Items;
 use std::alloc::Global;
@@ -72,7 +72,7 @@ fn grow(
     let at = usize::from(cell);
     let mut children = Items::new(alloc);
     for tile in 0..tiles.len() {
-        if !fits(tiles, shape, cells, at, tile as u16) {
+        if !fits_cell(tiles, shape, cells, at, tile as u16) {
             continue;
         }
         cells[at] = Some(tile as u16);

@@ -7,7 +7,7 @@ ghost use Rattle.wt_refute.specs.Standard as spec;
 
 use crate::Refuted;
 use crate::check::is_cited;
-use crate::window::{fits, is_free};
+use crate::window::{fits_cell, is_free};
 use wt_tile::{Axis, Tile};
 
 /// What may be cited at a cell, axis 1 before axis 2.
@@ -68,7 +68,7 @@ fn count_fitting(tiles: &[Tile], shape: (usize, usize), cells: &[Option<u16>], c
 {
     let mut count = 0usize;
     for tile in 0..tiles.len() {
-        if fits(tiles, shape, cells, cell, tile as u16) {
+        if fits_cell(tiles, shape, cells, cell, tile as u16) {
             count += 1;
         }
     }

@@ -82,7 +82,7 @@ fn may_join(tiles: &[Tile], axis: Axis, a: Option<u16>, b: Option<u16>) -> bool
 }
 
 /// Whether the tile matches every placed neighbour of the cell.
-pub fn fits(
+pub fn fits_cell(
     tiles: &[Tile],
     shape: (usize, usize),
     cells: &[Option<u16>],
@@ -92,7 +92,7 @@ pub fn fits(
     requires wide { 0 < shape.0 }
     requires small { shape.0 < 2 ^ 32 }
     requires low { cell < 2 ^ 32 }
-    ensures { result ≡ spec.fits tiles.now (placed shape cells.now) cell tile }
+    ensures { result ≡ spec.fits_cell tiles.now (placed shape cells.now) cell tile }
 {
     may_join(tiles, Axis::One, Some(tile), right_of(shape, cells, cell))
         && may_join(tiles, Axis::Two, Some(tile), above(shape, cells, cell))
@@ -114,11 +114,11 @@ pub fn next_fitting(
     requires low { cell < 2 ^ 32 }
     requires few { length tiles.now ≤ 65536 }
     ensures { MatchOption result
-        (passing (spec.fits tiles.now (placed shape cells.now) cell) from (length tiles.now - from) ≡ [])
-        (λ t. (t < length tiles.now) × (passing (spec.fits tiles.now (placed shape cells.now) cell) from (length tiles.now - from) ≡ t ∷ passing (spec.fits tiles.now (placed shape cells.now) cell) (t + 1) (length tiles.now - (t + 1)))) }
+        (passing (spec.fits_cell tiles.now (placed shape cells.now) cell) from (length tiles.now - from) ≡ [])
+        (λ t. (t < length tiles.now) × (passing (spec.fits_cell tiles.now (placed shape cells.now) cell) from (length tiles.now - from) ≡ t ∷ passing (spec.fits_cell tiles.now (placed shape cells.now) cell) (t + 1) (length tiles.now - (t + 1)))) }
 {
     for tile in from..tiles.len() {
-        if fits(tiles, shape, cells, cell, tile as u16) {
+        if fits_cell(tiles, shape, cells, cell, tile as u16) {
             return Some(tile);
         }
     }

@@ -11,7 +11,7 @@ use Rattle.wt_grid.proofs.Widths.{length_last}
 use Rattle.wt_step.specs.declared.raw.RawLink.{RawLink}
 use Rattle.wt_step.specs.Links.{fine_of, coarse_of}
 use Rattle.wt_chain.specs.Sets.{last_set, AreLinked}
-use Rattle.wt_chain.specs.Growth.{turns}
+use Rattle.wt_chain.specs.Growth.{turn_stages}
 use Rattle.wt_chain.specs.Turns.{image_under, image_through, renamed_back, turned, turned_times}
 use Rattle.wt_chain.specs.Good.{GoodLoop, Grows}
 use Rattle.wt_chain.proofs.Turned.{row, row_long, times_row}
@@ -54,7 +54,7 @@ module _ (l : RawLink) (ls : List RawLink) (list : List ℕ) (linked : AreLinked
   module _ (e : ℕ) (grows : (t : ℕ) → t < length (fine_of l).tiles → Grows (l ∷ ls) list e t) where
     twice_wide : (g : Grid) → IsPattern (fine_of l).tiles g → 2 * g.width ≤ (turned_times (l ∷ ls) list e g).width
     twice_wide g p =
-        let s = turns One (l ∷ ls) list e in
+        let s = turn_stages One (l ∷ ls) list e in
         let a = row_long One (turned_times (l ∷ ls) list e g) in
         let b = ap length (times_row One (l ∷ ls) list e g p.0) in
         let c = length_last s (row One g) in
@@ -64,7 +64,7 @@ module _ (l : RawLink) (ls : List RawLink) (list : List ℕ) (linked : AreLinked
 
     twice_high : (g : Grid) → IsPattern (fine_of l).tiles g → 2 * g.height ≤ (turned_times (l ∷ ls) list e g).height
     twice_high g p =
-        let s = turns Two (l ∷ ls) list e in
+        let s = turn_stages Two (l ∷ ls) list e in
         let a = row_long Two (turned_times (l ∷ ls) list e g) in
         let b = ap length (times_row Two (l ∷ ls) list e g p.0) in
         let c = length_last s (row Two g) in

@@ -9,7 +9,7 @@ use Rattle.std.proofs.lemmas.List.{length-map}
 use Rattle.std.proofs.Math.ListN.{get_or-map}
 use Rattle.wt_tile.specs.Matching.{matches}
 use Rattle.wt_pattern.specs.Patterns.{IsPattern}
-use Rattle.wt_grid.specs.Order.{in_order, is_below, follows}
+use Rattle.wt_grid.specs.Order.{in_order, is_below, comes_before}
 use Rattle.wt_grid.proofs.Order.{both}
 use Rattle.wt_grid.specs.Lines.{IsImage}
 use Rattle.wt_grid.specs.Grid.{Grid, along, across, lines, of_lines}
@@ -71,7 +71,7 @@ module _ (s : RawRestrict) (e : link_fault (Restrict s) ≡ None) (g : GoodRestr
 
   kept_count : length (kept_pieces s) ≡ length s.coarse.tiles
   kept_count =
-      let b = (both (in_order (is_below (length s.fine.tiles)) follows s.kept) (nat_eq (length s.kept) (length s.coarse.tiles)) g.sorted.kept).1 in
+      let b = (both (in_order (is_below (length s.fine.tiles)) comes_before s.kept) (nat_eq (length s.kept) (length s.coarse.tiles)) g.sorted.kept).1 in
       let n : length s.kept ≡ length s.coarse.tiles = grind (arith, nat_tests, b) in
       length-map s.kept Single ∙ n
 

@@ -19,7 +19,7 @@ use Rattle.wt_step.specs.Links.{fine_of, coarse_of}
 use Rattle.wt_chain.specs.declared.raw.RawChain.{RawChain}
 use Rattle.wt_chain.specs.declared.raw.End.TheVariants.{Loop}
 use Rattle.wt_chain.specs.Sets.{last_set, AreLinked, IsRun}
-use Rattle.wt_chain.specs.Growth.{stages, turns}
+use Rattle.wt_chain.specs.Growth.{stages, turn_stages}
 use Rattle.wt_chain.specs.Good.{GoodChain, GoodLoop, GoodEnd, Grows}
 use Rattle.wt_chain.proofs.Turned.{wide, high}
 use Rattle.wt_scale.specs.Sizes.{size_from, turns_size, size_of}
@@ -62,10 +62,10 @@ doubled k = pow-succ' 2 k ∙ (let p = 2 ^ k in omega arith)
 
 module _ (l : RawLink) (ls : List RawLink) (list : List ℕ) (e : ℕ) (linked : AreLinked (fine_of l) (l ∷ ls)) (ren : IsRenaming (last_set (coarse_of l) ls).tiles (fine_of l).tiles list)
     (grows : (t : ℕ) → t < length (fine_of l).tiles → Grows (l ∷ ls) list e t) where
-  pub grow_wide : (t : ℕ) → t < length (fine_of l).tiles → 2 ≤ width (turns One (l ∷ ls) list e) t
+  pub grow_wide : (t : ℕ) → t < length (fine_of l).tiles → 2 ≤ width (turn_stages One (l ∷ ls) list e) t
   grow_wide t lt = let g = (grows t lt).wide in let w = wide (l ∷ ls) list e t in omega arith
 
-  pub grow_high : (t : ℕ) → t < length (fine_of l).tiles → 2 ≤ width (turns Two (l ∷ ls) list e) t
+  pub grow_high : (t : ℕ) → t < length (fine_of l).tiles → 2 ≤ width (turn_stages Two (l ∷ ls) list e) t
   grow_high t lt = let g = (grows t lt).high in let w = high (l ∷ ls) list e t in omega arith
 
   -- after k times e turns a component that isn't 0 was at least 2 to the power k
@@ -78,10 +78,10 @@ module _ (l : RawLink) (ls : List RawLink) (list : List ℕ) (e : ℕ) (linked :
       let sizes : turns_size (l ∷ ls) (e * suc k) side ≡ turns_size (l ∷ ls) e next = ap (λ (n : ℕ). turns_size (l ∷ ls) n side) (one_more e k) ∙ turns_add (l ∷ ls) e (e * k) side in
       let s' : Standing (fine_of l).tiles (turns_size (l ∷ ls) e next) opposed [] [] d c = subst (λ (n : ℕ). Standing (fine_of l).tiles n opposed [] [] d c) sizes s in
       let u = turns_up l ls list linked ren e next opposed d c (omega arith) (omega arith) s' in
-      let a = right_halves (fine_of l).tiles (turns One (l ∷ ls) list e) (turns Two (l ∷ ls) list e) grow_wide grow_high next opposed d c (omega arith) (omega arith) u in
-      let b = up_halves (fine_of l).tiles (turns One (l ∷ ls) list e) (turns Two (l ∷ ls) list e) grow_wide grow_high next opposed d c (omega arith) (omega arith) u in
+      let a = right_halves (fine_of l).tiles (turn_stages One (l ∷ ls) list e) (turn_stages Two (l ∷ ls) list e) grow_wide grow_high next opposed d c (omega arith) (omega arith) u in
+      let b = up_halves (fine_of l).tiles (turn_stages One (l ∷ ls) list e) (turn_stages Two (l ∷ ls) list e) grow_wide grow_high next opposed d c (omega arith) (omega arith) u in
       let x = u.right_most in let y = u.up_most in
-      let r = outgrown k side opposed u.right u.up (omega arith) (omega arith) (anew (fine_of l).tiles next opposed (turns One (l ∷ ls) list e) (turns Two (l ∷ ls) list e) d c u) in
+      let r = outgrown k side opposed u.right u.up (omega arith) (omega arith) (anew (fine_of l).tiles next opposed (turn_stages One (l ∷ ls) list e) (turn_stages Two (l ∷ ls) list e) d c u) in
       let p = doubled k in
       (λ h. twice_as d u.right (2 ^ k) (2 ^ suc k) (r.0 (u.right_some h)) a p, λ h. twice_as c u.up (2 ^ k) (2 ^ suc k) (r.1 (u.up_some h)) b p)
     where

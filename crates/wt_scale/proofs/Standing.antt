@@ -23,7 +23,7 @@ use Rattle.wt_step.specs.Words.{image_at}
 use Rattle.wt_morphism.specs.Images.{piece}
 use Rattle.wt_step.specs.Meaning.{pieces_of}
 use Rattle.wt_chain.specs.Sets.{last_set, AreLinked}
-use Rattle.wt_chain.specs.Growth.{stage, renaming_stage, stages, turn, turns, is_along}
+use Rattle.wt_chain.specs.Growth.{stage, renaming_stage, stages, turn, turn_stages, is_along}
 use Rattle.wt_scale.specs.Scales.{side_below}
 use Rattle.wt_scale.specs.Sizes.{size_from, turns_size}
 use Rattle.wt_scale.proofs.Lowering.{lowered}
@@ -150,11 +150,11 @@ module _ (l : RawLink) (ls : List RawLink) (list : List ℕ) (linked : AreLinked
       (steps_up (l ∷ ls) (fine_of l) side opposed rows columns d e linked ld le s)
 
   pub turns_up : (n side : ℕ) (opposed : Bool) (d e : ℕ) → d + 2 ≤ side → e + 2 ≤ side
-      → Standing (fine_of l).tiles (turns_size (l ∷ ls) n side) opposed [] [] d e → Standing (fine_of l).tiles side opposed (turns One (l ∷ ls) list n) (turns Two (l ∷ ls) list n) d e
+      → Standing (fine_of l).tiles (turns_size (l ∷ ls) n side) opposed [] [] d e → Standing (fine_of l).tiles side opposed (turn_stages One (l ∷ ls) list n) (turn_stages Two (l ∷ ls) list n) d e
   turns_up zero side opposed d e ld le s = s
   turns_up (suc n) side opposed d e ld le s =
       let x = larger_from (l ∷ ls) side in
-      turn_up side opposed (turns One (l ∷ ls) list n) (turns Two (l ∷ ls) list n) d e ld le (turns_up n (size_from (l ∷ ls) side) opposed d e (omega arith) (omega arith) s)
+      turn_up side opposed (turn_stages One (l ∷ ls) list n) (turn_stages Two (l ∷ ls) list n) d e ld le (turns_up n (size_from (l ∷ ls) side) opposed d e (omega arith) (omega arith) s)
 
 -- the same pattern, from here on
 pub anew : (ts : List Tile) (side : ℕ) (opposed : Bool) (rows columns : List Stage) (d e : ℕ) → (s : Standing ts side opposed rows columns d e) → Standing ts side opposed [] [] s.right s.up

@@ -18,7 +18,7 @@ use Rattle.wt_step.specs.declared.raw.RawStep.{RawStep}
 use Rattle.wt_step.specs.declared.raw.StepFault.TheVariants.{Node}
 use Rattle.wt_step.specs.Words.{allows, is_barred, entry_at, times, entry_fits}
 use Rattle.wt_refute.specs.Entries.{is_entry, entry_before, entries_follow}
-use Rattle.wt_grid.specs.Pairs.{is_pair}
+use Rattle.wt_grid.specs.Pairs.{is_this_pair}
 use Rattle.wt_step.specs.Faults.{tree_fault_at, tree_answer}
 use Rattle.wt_step.specs.Good.{GoodStep}
 use Rattle.wt_step.specs.Meaning.{allowing}
@@ -123,8 +123,8 @@ module _ (s : RawStep) (g : GoodStep s) where
       let lt = c.1 in
       let f = find_some (is_entry c.0 axis a b) s.refuted c.2 c.3 in
       let k = c.2 in
-      let p = both (nat_eq k.radius c.0) (nat_eq (axis_number k.axis) (axis_number axis) && is_pair a b (k.a, k.b)) f.2 in
-      let q = both (nat_eq (axis_number k.axis) (axis_number axis)) (is_pair a b (k.a, k.b)) p.1 in
+      let p = both (nat_eq k.radius c.0) (nat_eq (axis_number k.axis) (axis_number axis) && is_this_pair a b (k.a, k.b)) f.2 in
+      let q = both (nat_eq (axis_number k.axis) (axis_number axis)) (is_this_pair a b (k.a, k.b)) p.1 in
       let x = axis_same k.axis axis q.0 in
       let y = is_pair_same a b (k.a, k.b) q.1 in
       let z : k.radius ≡ c.0 = grind (arith, nat_tests, p.0) in

@@ -15,7 +15,7 @@ use Rattle.wt_grid.proofs.Order.{both}
 use Rattle.wt_grid.specs.Lines.{IsGood, IsImage}
 use Rattle.wt_grid.proofs.Coarse.{first, last, MatchAcross}
 use Rattle.wt_grid.specs.Grid.{Grid, IsGrid, along, across, lines}
-use Rattle.wt_grid.specs.Cuts.{table, closed, Fills}
+use Rattle.wt_grid.specs.Cuts.{step_table, closed, Fills}
 use Rattle.wt_grid.specs.Parts.{core, AllBelow}
 use Rattle.wt_grid.proofs.Parts.{core_valid}
 use Rattle.wt_grid.proofs.Rectangles.{some_grid, one_grid, wide_along}
@@ -87,10 +87,10 @@ module _ (s : RawStep) (g : GoodStep s) where
       joined_images (other s.axis) i j x.0 y.0 x.1 y.1 (rw (not_other s.axis) (matched_pieces s.fine.tiles (other s.axis) x.0 y.0 m'))
 
   -- the same, said with the axes of rectangles
-  the_table : IsGood (table s.side (allowing s s.axis) (allowing s (other s.axis)) (is_marker s) (pieces s))
+  the_table : IsGood (step_table s.side (allowing s s.axis) (allowing s (other s.axis)) (is_marker s) (pieces s))
   the_table =
-      subst (λ (u : Axis). IsGood (table s.side (allows s u) (allows s ((other s.axis))) (is_marker s) (pieces s))) (sym (tile_grid s.axis))
-      (subst (λ (v : Axis). IsGood (table s.side (allows s s.axis) (allows s v) (is_marker s) (pieces s))) (sym (tile_other s.axis)) (good_table s g))
+      subst (λ (u : Axis). IsGood (step_table s.side (allows s u) (allows s ((other s.axis))) (is_marker s) (pieces s))) (sym (tile_grid s.axis))
+      (subst (λ (v : Axis). IsGood (step_table s.side (allows s s.axis) (allows s v) (is_marker s) (pieces s))) (sym (tile_other s.axis)) (good_table s g))
 
   the_joins : (i j : ℕ) (p r : Image) → slice_get (pieces s) i ≡ Some p → slice_get (pieces s) j ≡ Some r → matches s.fine.tiles s.axis (last p) (first r) ≡ true → matches s.coarse.tiles s.axis i j ≡ true
   the_joins i j p r e f m =

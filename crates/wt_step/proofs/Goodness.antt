@@ -15,7 +15,7 @@ use Rattle.wt_step.specs.declared.raw.RawStep.{RawStep}
 use Rattle.wt_step.specs.declared.raw.StepFault.{StepFault}
 use Rattle.wt_step.specs.declared.raw.StepFault.TheVariants.{Radius, Fine, Coarse, Markers, Allowed, RefutedList, Images, Pair, Marker, Image as BadImage, MissingTile, MissingPair, Join}
 use Rattle.wt_step.specs.Words.{same_image, allowed, is_barred, is_block, image_at, images_match}
-use Rattle.wt_grid.specs.Pairs.{is_pair}
+use Rattle.wt_grid.specs.Pairs.{is_this_pair}
 use Rattle.wt_step.specs.Faults.{unless, shape_fault, markers_fit, allowed_fit, refuted_fit, images_fit, is_named_well, trees_fault, pair_fault, row_fault, pairs_fault, is_marked_well, marker_fault_at, marker_fault, is_good_image, image_fault_at, image_fault, is_demanded, missing_tile_at, missing_tile, missing_pair_at, missing_pair, join_fault_at, join_row, join_fault, rules_fault, step_fault}
 use Rattle.wt_step.specs.Good.{GoodStep}
 use Rattle.wt_step.proofs.Shaped.{holds, shaped}
@@ -28,10 +28,10 @@ all_none f i (suc n) h = rw (h i (omega arith) (omega arith)) (all_none f (i + 1
 pub none_both : {A : Type 0} (a b : Option A) → a ≡ None → b ≡ None → or_else a b ≡ None
 none_both a b e f = rw e f
 
-pub is_pair_same : (a b : ℕ) (p : ℕ × ℕ) → is_pair a b p ≡ true → (p.0 ≡ a) × (p.1 ≡ b)
+pub is_pair_same : (a b : ℕ) (p : ℕ × ℕ) → is_this_pair a b p ≡ true → (p.0 ≡ a) × (p.1 ≡ b)
 is_pair_same a b p e = let g = both (nat_eq p.0 a) (nat_eq p.1 b) e in (grind (arith, nat_tests, g.0), grind (arith, nat_tests, g.1))
 
-is_pair_itself : (p : ℕ × ℕ) → is_pair p.0 p.1 p ≡ true
+is_pair_itself : (p : ℕ × ℕ) → is_this_pair p.0 p.1 p ≡ true
 is_pair_itself p =
     let e : nat_eq p.0 p.0 ≡ true = grind (arith, nat_tests) in
     let f : nat_eq p.1 p.1 ≡ true = grind (arith, nat_tests) in rw (e, f) refl
@@ -39,22 +39,22 @@ is_pair_itself p =
 pair_of : (x y a b : ℕ) → x ≡ a → y ≡ b → Path (ℕ × ℕ) (x, y) (a, b)
 pair_of x y a b e f = cc
 
-same_pair : (a b : ℕ) (p : ℕ × ℕ) → is_pair a b p ≡ true → Path (ℕ × ℕ) p (a, b)
+same_pair : (a b : ℕ) (p : ℕ × ℕ) → is_this_pair a b p ≡ true → Path (ℕ × ℕ) p (a, b)
 same_pair a b p e = let g = is_pair_same a b p e in pair_of p.0 p.1 a b g.0 g.1
 
-none_at : {A : Type 0} (f : ℕ × ℕ → Option A) (ps : List (ℕ × ℕ)) → first_in f ps ≡ None → (a b : ℕ) → list_any (is_pair a b) ps ≡ true → f (a, b) ≡ None
+none_at : {A : Type 0} (f : ℕ × ℕ → Option A) (ps : List (ℕ × ℕ)) → first_in f ps ≡ None → (a b : ℕ) → list_any (is_this_pair a b) ps ≡ true → f (a, b) ≡ None
 none_at f [] e a b h = absurd (cc h)
-none_at f (p ∷ ps) e a b h = let n = neither (f p) (first_in f ps) e in go (is_pair a b p) refl n.0 (none_at f ps n.1 a b)
+none_at f (p ∷ ps) e a b h = let n = neither (f p) (first_in f ps) e in go (is_this_pair a b p) refl n.0 (none_at f ps n.1 a b)
   where
-    go : (t : Bool) → is_pair a b p ≡ t → f p ≡ None → (list_any (is_pair a b) ps ≡ true → f (a, b) ≡ None) → f (a, b) ≡ None
+    go : (t : Bool) → is_this_pair a b p ≡ t → f p ≡ None → (list_any (is_this_pair a b) ps ≡ true → f (a, b) ≡ None) → f (a, b) ≡ None
     go true t n r = ap f (sym (same_pair a b p t)) ∙ n
     go false t n r = r (rw t at h)
 
-none_in : {A : Type 0} (f : ℕ × ℕ → Option A) (ps : List (ℕ × ℕ)) → ((a b : ℕ) → list_any (is_pair a b) ps ≡ true → f (a, b) ≡ None) → first_in f ps ≡ None
+none_in : {A : Type 0} (f : ℕ × ℕ → Option A) (ps : List (ℕ × ℕ)) → ((a b : ℕ) → list_any (is_this_pair a b) ps ≡ true → f (a, b) ≡ None) → first_in f ps ≡ None
 none_in f [] h = refl
 none_in f (p ∷ ps) h =
     none_both (f p) (first_in f ps) (h p.0 p.1 (rw (is_pair_itself p) refl))
-    (none_in f ps (λ a b m. h a b (or_right (is_pair a b p) (list_any (is_pair a b) ps) m)))
+    (none_in f ps (λ a b m. h a b (or_right (is_this_pair a b p) (list_any (is_this_pair a b) ps) m)))
   where
     or_right : (x y : Bool) → y ≡ true → (x || y) ≡ true
     or_right true y e = refl

@@ -5,7 +5,7 @@ use Rattle.wt_grid.specs.Axes.{axis_number}
 use Rattle.wt_grid.specs.declared.axis.Axis.{Axis}
 use Rattle.std.proofs.lemmas.Bool.Decides.{nat_tests}
 use Rattle.wt_grid.specs.Order.{in_order, leads, AllAbove, IsSplit}
-use Rattle.wt_grid.specs.Pairs.{pair_before, is_pair, pairs_follow, pair_fits}
+use Rattle.wt_grid.specs.Pairs.{pair_before, is_this_pair, pairs_follow, pair_fits}
 use Rattle.wt_grid.proofs.Keys.{first_by, by_cases, by_less, pairs_split}
 use Rattle.wt_grid.proofs.Order.{both, has_found, above_none}
 use Rattle.wt_refute.specs.declared.tree.Refuted.{Refuted}
@@ -15,7 +15,7 @@ use Rattle.wt_step.specs.declared.raw.RawStep.{RawStep}
 use Rattle.wt_step.specs.declared.walk.Places.{Places}
 use Rattle.wt_step.specs.Words.{entry_fits, allowed, allows, entry_at}
 use Rattle.wt_step.specs.Faults.{IsShaped}
-use Rattle.wt_step.specs.Walk.{passed, allowed_place, refuted_place, IsPlaced}
+use Rattle.wt_step.specs.Walk.{passed, allowed_place, refuted_place, IsAtPlace}
 use Rattle.wt_step.proofs.Shaped.{refuted_ascend}
 
 -- Lists that are split at a key.
@@ -169,7 +169,7 @@ below_next x y = go (nat_lt x y) (nat_eq x y) refl refl
     go false true l m = rw (l, m) (grind (arith, nat_tests, l, m))
     go false false l m = rw (l, m) (grind (arith, nat_tests, l, m))
 
-pub pair_next : (a b : ℕ) (p : ℕ × ℕ) → pair_before a (b + 1) p ≡ (pair_before a b p || is_pair a b p)
+pub pair_next : (a b : ℕ) (p : ℕ × ℕ) → pair_before a (b + 1) p ≡ (pair_before a b p || is_this_pair a b p)
 pair_next a b p = ap (λ t. nat_lt p.0 a || (nat_eq p.0 a && t)) (below_next p.1 b) ∙ spread (nat_lt p.0 a) (nat_eq p.0 a) (nat_lt p.1 b) (nat_eq p.1 b)
 
 pub entry_next : (radius : ℕ) (axis : Axis) (a b : ℕ) (r : Refuted) → entry_before radius axis a (b + 1) r ≡ (entry_before radius axis a b r || is_entry radius axis a b r)
@@ -178,8 +178,8 @@ entry_next radius axis a b r =
     let m = axis_number axis in
     let p : ℕ × ℕ = (r.a, r.b) in
     ap (λ t. nat_lt r.radius radius || (nat_eq r.radius radius && (nat_lt n m || (nat_eq n m && t)))) (pair_next a b p)
-    ∙ (ap (λ t. nat_lt r.radius radius || (nat_eq r.radius radius && t)) (spread (nat_lt n m) (nat_eq n m) (pair_before a b p) (is_pair a b p))
-    ∙ spread (nat_lt r.radius radius) (nat_eq r.radius radius) (nat_lt n m || (nat_eq n m && pair_before a b p)) (nat_eq n m && is_pair a b p))
+    ∙ (ap (λ t. nat_lt r.radius radius || (nat_eq r.radius radius && t)) (spread (nat_lt n m) (nat_eq n m) (pair_before a b p) (is_this_pair a b p))
+    ∙ spread (nat_lt r.radius radius) (nat_eq r.radius radius) (nat_lt n m || (nat_eq n m && pair_before a b p)) (nat_eq n m && is_this_pair a b p))
 
 ended : (l e c : Bool) → (l || (e && true)) ≡ ((l || e) || (c && false))
 ended true e c = refl
@@ -229,14 +229,14 @@ none_passed (p ∷ ps) =
 -- The lists of a step.
 
 module _ (s : RawStep) (h : IsShaped s) (axis : Axis) (a b : ℕ) where
-  pub allowed_split : IsSplit (pair_before a b) (is_pair a b) (allowed s axis)
+  pub allowed_split : IsSplit (pair_before a b) (is_this_pair a b) (allowed s axis)
   allowed_split = pairs_split (length s.fine.tiles) a b (allowed s axis) (h.allowed axis)
 
   pub refuted_split : (radius : ℕ) → IsSplit (entry_before radius axis a b) (is_entry radius axis a b) s.refuted
   refuted_split radius = entries_split radius axis a b s.refuted (refuted_ascend s h)
 
   pub allowed_next : allowed_place s axis a (b + 1) ≡ (if allows s axis a b then suc (allowed_place s axis a b) else allowed_place s axis a b)
-  allowed_next = passed_next (pair_before a b) (is_pair a b) (pair_before a (b + 1)) (pair_next a b) (allowed s axis) allowed_split
+  allowed_next = passed_next (pair_before a b) (is_this_pair a b) (pair_before a (b + 1)) (pair_next a b) (allowed s axis) allowed_split
 
   pub refuted_next : (radius : ℕ) → refuted_place s axis a (b + 1) radius
       ≡ (if is_some (entry_at s axis a b radius) then suc (refuted_place s axis a b radius) else refuted_place s axis a b radius)
@@ -247,11 +247,11 @@ module _ (s : RawStep) (h : IsShaped s) (axis : Axis) (a b : ℕ) where
   -- what code sees at the place of an allowed pair
 
   pub allowed_here : (pairs : List (ℕ × ℕ)) (place : ℕ) (d : ℕ × ℕ) → pairs ≡ allowed s axis → place ≡ allowed_place s axis a b → place < length pairs
-      → allows s axis a b ≡ is_pair a b (get_or pairs place d)
-  allowed_here pairs place d e p lt = rw (e, p) (has_at (pair_before a b) (is_pair a b) (allowed s axis) d allowed_split (rw (e, p) at lt))
+      → allows s axis a b ≡ is_this_pair a b (get_or pairs place d)
+  allowed_here pairs place d e p lt = rw (e, p) (has_at (pair_before a b) (is_this_pair a b) (allowed s axis) d allowed_split (rw (e, p) at lt))
 
   pub allowed_past : (pairs : List (ℕ × ℕ)) (place : ℕ) → pairs ≡ allowed s axis → place ≡ allowed_place s axis a b → length pairs ≤ place → allows s axis a b ≡ false
-  allowed_past pairs place e p le = has_none (pair_before a b) (is_pair a b) (allowed s axis) allowed_split (rw (e, p) at le)
+  allowed_past pairs place e p le = has_none (pair_before a b) (is_this_pair a b) (allowed s axis) allowed_split (rw (e, p) at le)
 
   pub allowed_hit : (place : ℕ) → place ≡ allowed_place s axis a b → allows s axis a b ≡ true → place + 1 ≡ allowed_place s axis a (b + 1)
   allowed_hit place p e = let n = rw e at allowed_next in omega (arith, n, p)
@@ -289,7 +289,7 @@ module _ (s : RawStep) (h : IsShaped s) (axis : Axis) (a b : ℕ) where
     pub refuted_miss : (place : ℕ) → place ≡ refuted_place s axis a b radius → is_some (entry_at s axis a b radius) ≡ false → place ≡ refuted_place s axis a (b + 1) radius
     refuted_miss place p e = let n = rw e at (refuted_next radius) in p ∙ sym n
 
-pub next_row : (s : RawStep) (axis : Axis) (a : ℕ) (places : Places) → IsShaped s → IsPlaced s axis a (length s.fine.tiles) places → IsPlaced s axis (a + 1) 0 places
+pub next_row : (s : RawStep) (axis : Axis) (a : ℕ) (places : Places) → IsShaped s → IsAtPlace s axis a (length s.fine.tiles) places → IsAtPlace s axis (a + 1) 0 places
 next_row s axis a places h p =
     let n = length s.fine.tiles in
     record {

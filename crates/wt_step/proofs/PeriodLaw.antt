@@ -6,7 +6,7 @@ use Rattle.wt_pattern.specs.Patterns.{IsPattern}
 use Rattle.wt_grid.specs.Grid.{Grid, IsGrid, along, across}
 use Rattle.wt_grid.specs.Parts.{core}
 use Rattle.wt_grid.specs.Lines.{IsGood}
-use Rattle.wt_grid.specs.Cuts.{table}
+use Rattle.wt_grid.specs.Cuts.{step_table}
 use Rattle.wt_grid.specs.Shifts.{HasVector}
 use Rattle.wt_grid.proofs.CarriedGrids.{core_repeated, carried_grid}
 use Rattle.wt_step.specs.declared.raw.RawStep.{RawStep}
@@ -27,10 +27,10 @@ lag true e n lt le = le
 lag false e n lt le = lt
 
 -- the table of a good step, said with the axes of rectangles
-pub the_table : (s : RawStep) → GoodStep s → IsGood (table s.side (allowing s s.axis) (allowing s (other s.axis)) (is_marker s) (pieces s))
+pub the_table : (s : RawStep) → GoodStep s → IsGood (step_table s.side (allowing s s.axis) (allowing s (other s.axis)) (is_marker s) (pieces s))
 the_table s g =
-    subst (λ (u : Axis). IsGood (table s.side (allows s u) (allows s ((other s.axis))) (is_marker s) (pieces s))) (sym (tile_grid s.axis))
-    (subst (λ (v : Axis). IsGood (table s.side (allows s s.axis) (allows s v) (is_marker s) (pieces s))) (sym (tile_other s.axis)) (good_table s g))
+    subst (λ (u : Axis). IsGood (step_table s.side (allows s u) (allows s ((other s.axis))) (is_marker s) (pieces s))) (sym (tile_grid s.axis))
+    (subst (λ (v : Axis). IsGood (step_table s.side (allows s s.axis) (allows s v) (is_marker s) (pieces s))) (sym (tile_other s.axis)) (good_table s g))
 
 pub carried : (s : RawStep) → GoodStep s → (p q : Grid) → IsPattern s.fine.tiles p → IsGrid q → IsCoarse s p q → (opposed : Bool) (d e : ℕ)
     → d + 3 ≤ along s.axis (core s.radius p) → e < across s.axis (core s.radius p) → HasVector s.axis opposed d e p → (n : ℕ) × IsCarried s opposed d e n q

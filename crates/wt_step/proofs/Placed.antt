@@ -7,7 +7,7 @@ use Rattle.std.proofs.lemmas.Bool.Decides.{nat_tests}
 use Rattle.std.proofs.lemmas.Option.{slice_get-map}
 use Rattle.std.proofs.lemmas.List.{get_or-set_same, get_or-set_other, length-set}
 use Rattle.wt_tile.proofs.Sizes.{few_tiles}
-use Rattle.wt_grid.specs.Order.{in_order, leads, follows, is_below}
+use Rattle.wt_grid.specs.Order.{in_order, leads, comes_before, is_below}
 use Rattle.wt_grid.proofs.Order.{both}
 use Rattle.wt_grid.specs.Grid.{Grid, cell, grid_of}
 use Rattle.wt_grid.specs.Parts.{core}
@@ -23,14 +23,14 @@ use Rattle.wt_step.specs.Blocks.{cell_at, kept_tile, IsPlaced}
 use Rattle.wt_step.proofs.Restricted.{core_kept, kept_place, kept_once, count_kept, some_kept, one_kept}
 use Rattle.wt_step.proofs.Tables.{some_of}
 
-each_below : (n : ℕ) (xs : List ℕ) (i a : ℕ) → in_order (is_below n) follows xs ≡ true → slice_get xs i ≡ Some a → a < n
+each_below : (n : ℕ) (xs : List ℕ) (i a : ℕ) → in_order (is_below n) comes_before xs ≡ true → slice_get xs i ≡ Some a → a < n
 each_below n [] i a o e = absurd (cc e)
 each_below n (x ∷ xs) zero a o e =
     let f : Some x ≡ Some a = e in
     let same : x ≡ a = cc in
-    let b = (both (is_below n x) (leads follows x xs) (both (is_below n x && leads follows x xs) (in_order (is_below n) follows xs) o).0).0 in
+    let b = (both (is_below n x) (leads comes_before x xs) (both (is_below n x && leads comes_before x xs) (in_order (is_below n) comes_before xs) o).0).0 in
     let lt : x < n = grind (arith, nat_tests, b) in omega arith
-each_below n (x ∷ xs) (suc i) a o e = each_below n xs i a (both (is_below n x && leads follows x xs) (in_order (is_below n) follows xs) o).1 e
+each_below n (x ∷ xs) (suc i) a o e = each_below n xs i a (both (is_below n x && leads comes_before x xs) (in_order (is_below n) comes_before xs) o).1 e
 
 there : (xs : List ℕ) (i : ℕ) → i < length xs → slice_get xs i ≡ Some (slice_index xs i)
 there [] i lt = absurd (omega arith)
@@ -47,7 +47,7 @@ kept_sizes s g =
 
 module _ (s : RawRestrict) (g : GoodRestrict s) where
   kept_below : (i a : ℕ) → slice_get s.kept i ≡ Some a → a < length s.fine.tiles
-  kept_below i a e = each_below (length s.fine.tiles) s.kept i a (both (in_order (is_below (length s.fine.tiles)) follows s.kept) (nat_eq (length s.kept) (length s.coarse.tiles)) g.sorted.kept).0 e
+  kept_below i a e = each_below (length s.fine.tiles) s.kept i a (both (in_order (is_below (length s.fine.tiles)) comes_before s.kept) (nat_eq (length s.kept) (length s.coarse.tiles)) g.sorted.kept).0 e
 
   pub kept_inside : (k : ℕ) → k < length s.kept → kept_at s k < length s.fine.tiles
   kept_inside k lt = kept_below k (kept_at s k) (there s.kept k lt)

@@ -12,7 +12,7 @@ use Rattle.wt_tile.specs.Sets.{set_fault}
 use Rattle.wt_tile.specs.Matching.{matches}
 use Rattle.wt_refute.specs.Refutes.{tile_tree_fault}
 use Rattle.wt_refute.proofs.Faults.{absent}
-use Rattle.wt_grid.specs.Order.{in_order, first_in, agree, follows, is_below, IsSplit}
+use Rattle.wt_grid.specs.Order.{in_order, first_in, agree, comes_before, is_below, IsSplit}
 use Rattle.wt_grid.proofs.First.{neither, none_from}
 use Rattle.wt_grid.proofs.Order.{both, split}
 use Rattle.wt_grid.specs.Lines.{Table, IsGood, Singles, IsImage}
@@ -142,8 +142,8 @@ one_first a p e = ap first (sym e)
 one_last : (a : ℕ) (p : Image) → Single a ≡ p → last p ≡ a
 one_last a p e = ap last (sym e)
 
-numbers_split : (n a : ℕ) (xs : List ℕ) → in_order (is_below n) follows xs ≡ true → IsSplit (λ x. nat_lt x a) (nat_eq a) xs
-numbers_split n a xs e = split (λ x. nat_lt x a) (nat_eq a) (is_below n) follows
+numbers_split : (n a : ℕ) (xs : List ℕ) → in_order (is_below n) comes_before xs ≡ true → IsSplit (λ x. nat_lt x a) (nat_eq a) xs
+numbers_split n a xs e = split (λ x. nat_lt x a) (nat_eq a) (is_below n) comes_before
     (λ x y f h. grind (arith, nat_tests, f, h)) (λ x y f h. grind (arith, nat_tests, f, h)) (λ x f. grind (arith, nat_tests, f)) xs e
 
 same_number : (a : ℕ) → nat_eq a a ≡ true
@@ -165,7 +165,7 @@ module _ (s : RawRestrict) (g : GoodRestrict s) where
           absurd (absent s.fine.tiles l.1.tile s.radius l.1.tree (g.trees l.0 l.1 l.2) c p x y lx ly same)
 
   pub count_kept : length s.kept ≡ length s.coarse.tiles
-  count_kept = let e = (both (in_order (is_below (length s.fine.tiles)) follows s.kept) (nat_eq (length s.kept) (length s.coarse.tiles)) g.sorted.kept).1 in grind (arith, nat_tests, e)
+  count_kept = let e = (both (in_order (is_below (length s.fine.tiles)) comes_before s.kept) (nat_eq (length s.kept) (length s.coarse.tiles)) g.sorted.kept).1 in grind (arith, nat_tests, e)
 
   kept_joined : (axis : Axis) (i j a b : ℕ) → slice_get s.kept i ≡ Some a → slice_get s.kept j ≡ Some b → matches s.fine.tiles axis a b ≡ true → matches s.coarse.tiles axis i j ≡ true
   kept_joined axis i j a b e f m =
@@ -204,7 +204,7 @@ module _ (s : RawRestrict) (g : GoodRestrict s) where
 
   pub kept_once : (i j a : ℕ) → slice_get s.kept i ≡ Some a → slice_get s.kept j ≡ Some a → i ≡ j
   kept_once i j a e f =
-      let o = (both (in_order (is_below (length s.fine.tiles)) follows s.kept) (nat_eq (length s.kept) (length s.coarse.tiles)) g.sorted.kept).0 in
+      let o = (both (in_order (is_below (length s.fine.tiles)) comes_before s.kept) (nat_eq (length s.kept) (length s.coarse.tiles)) g.sorted.kept).0 in
       one_place (λ z. nat_lt z a) (nat_eq a) s.kept i j a a (numbers_split (length s.fine.tiles) a s.kept o) e f (same_number a) (same_number a)
 
   ones_apart : (i j : ℕ) (p : Image) → slice_get (kept_pieces s) i ≡ Some p → slice_get (kept_pieces s) j ≡ Some p → i ≡ j

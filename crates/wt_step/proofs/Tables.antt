@@ -14,11 +14,11 @@ use Rattle.std.proofs.lemmas.Option.{slice_get-map}
 use Rattle.wt_grid.specs.Order.{in_order, agree}
 use Rattle.wt_grid.proofs.Order.{both}
 use Rattle.wt_grid.specs.Lines.{IsGood}
-use Rattle.wt_grid.specs.Cuts.{flip, table}
+use Rattle.wt_grid.specs.Cuts.{flip, step_table}
 use Rattle.wt_grid.proofs.Law.{unflipped, flipped}
 use Rattle.wt_step.specs.declared.raw.RawStep.{RawStep}
 use Rattle.wt_step.specs.Words.{same_image, allowed, allows, is_marker, is_block, joined, demands}
-use Rattle.wt_grid.specs.Pairs.{is_pair, pairs_follow, pair_fits}
+use Rattle.wt_grid.specs.Pairs.{is_this_pair, pairs_follow, pair_fits}
 use Rattle.wt_step.specs.Faults.{is_good_image, is_demanded}
 use Rattle.wt_step.specs.Good.{GoodStep}
 use Rattle.wt_morphism.specs.Images.{piece}
@@ -69,14 +69,14 @@ has_before p (y ∷ xs) (suc i) (suc j) x e lt h = either (p y) (list_any p (tak
     either true b e = refl
     either false b e = e
 
-fits_at : (n : ℕ) (ps : List (ℕ × ℕ)) (a b : ℕ) → in_order (pair_fits n) pairs_follow ps ≡ true → list_any (is_pair a b) ps ≡ true → (a < n) × (b < n)
+fits_at : (n : ℕ) (ps : List (ℕ × ℕ)) (a b : ℕ) → in_order (pair_fits n) pairs_follow ps ≡ true → list_any (is_this_pair a b) ps ≡ true → (a < n) × (b < n)
 fits_at n [] a b o h = absurd (cc h)
 fits_at n (p ∷ ps) a b o h =
     let k = both _ _ (both _ _ o).0 in
     let f = both (nat_lt p.0 n) (nat_lt p.1 n) k.0 in
-    go (is_pair a b p) refl (fits_at n ps a b (both _ _ o).1) f.0 f.1
+    go (is_this_pair a b p) refl (fits_at n ps a b (both _ _ o).1) f.0 f.1
   where
-    go : (t : Bool) → is_pair a b p ≡ t → (list_any (is_pair a b) ps ≡ true → (a < n) × (b < n)) → nat_lt p.0 n ≡ true → nat_lt p.1 n ≡ true → (a < n) × (b < n)
+    go : (t : Bool) → is_this_pair a b p ≡ t → (list_any (is_this_pair a b) ps ≡ true → (a < n) × (b < n)) → nat_lt p.0 n ≡ true → nat_lt p.1 n ≡ true → (a < n) × (b < n)
     go true t r f g = let e = is_pair_same a b p t in let x = e.0 in let y = e.1 in (grind (arith, nat_tests, f, x), grind (arith, nat_tests, g, y))
     go false t r f g = r (rw t at h)
 
@@ -166,14 +166,14 @@ module _ (s : RawStep) (g : GoodStep s) where
 
   -- the pair makes its first tile an image (after), or its second (before)
   demand_first : (a b : ℕ) → s.side ≡ After → allows s s.axis a b ≡ true → is_marker s b ≡ false → list_any (demands s a) (allowed s s.axis) ≡ true
-  demand_first a b e h n = has_more (is_pair a b) (demands s a) (allowed s s.axis) (λ p k.
+  demand_first a b e h n = has_more (is_this_pair a b) (demands s a) (allowed s s.axis) (λ p k.
       let f = is_pair_same a b p k in let x = f.0 in
       let q : nat_eq p.0 a ≡ true = grind (arith, nat_tests, x) in
       let n' : is_marker s p.1 ≡ false = ap (is_marker s) f.1 ∙ n in
       rw e (rw (q, n') refl)) h
 
   demand_second : (a b : ℕ) → s.side ≡ Before → allows s s.axis a b ≡ true → is_marker s a ≡ false → list_any (demands s b) (allowed s s.axis) ≡ true
-  demand_second a b e h n = has_more (is_pair a b) (demands s b) (allowed s s.axis) (λ p k.
+  demand_second a b e h n = has_more (is_this_pair a b) (demands s b) (allowed s s.axis) (λ p k.
       let f = is_pair_same a b p k in let x = f.1 in
       let q : nat_eq p.1 b ≡ true = grind (arith, nat_tests, x) in
       let n' : is_marker s p.0 ≡ false = ap (is_marker s) f.0 ∙ n in
@@ -188,7 +188,7 @@ module _ (s : RawStep) (g : GoodStep s) where
   joined_before true false e = (refl, refl)
   joined_before false n e = absurd (cc e)
 
-  table_of : (side : Side) → s.side ≡ side → IsGood (table side (allows s s.axis) (allows s (other s.axis)) (is_marker s) (pieces s))
+  table_of : (side : Side) → s.side ≡ side → IsGood (step_table side (allows s s.axis) (allows s (other s.axis)) (is_marker s) (pieces s))
   table_of After e = record {
     apart = apart;
     uniform = uniform;
@@ -213,5 +213,5 @@ module _ (s : RawStep) (g : GoodStep s) where
       flip_distinct (Double a b) i j h k = distinct i j (Double b a) ((unflipped (pieces s)).twos i a b h) ((unflipped (pieces s)).twos j a b k)
 
   -- a good step allows a good table
-  pub good_table : IsGood (table s.side (allows s s.axis) (allows s (other s.axis)) (is_marker s) (pieces s))
+  pub good_table : IsGood (step_table s.side (allows s s.axis) (allows s (other s.axis)) (is_marker s) (pieces s))
   good_table = table_of s.side refl

@@ -17,7 +17,7 @@ use Rattle.wt_step.specs.Words.{entry_fits, image_fits, same_image, allowed, all
 use Rattle.wt_refute.specs.Entries.{entries_follow}
 use Rattle.wt_grid.specs.Pairs.{pairs_follow, pair_fits}
 use Rattle.wt_grid.specs.First.{or_else, first_from}
-use Rattle.wt_grid.specs.Order.{in_order, first_in, is_below, follows, agree}
+use Rattle.wt_grid.specs.Order.{in_order, first_in, is_below, comes_before, agree}
 
 abbrev pub unless : Bool → StepFault → Option StepFault
 unless ok fault = if ok then None else Some fault
@@ -25,7 +25,7 @@ unless ok fault = if ok then None else Some fault
 -- Lists in order and in range.
 
 abbrev pub markers_fit : RawStep → Bool
-markers_fit s = in_order (is_below (length s.fine.tiles)) follows s.markers && nat_lt 0 (length s.markers) && nat_lt (length s.markers) (length s.fine.tiles)
+markers_fit s = in_order (is_below (length s.fine.tiles)) comes_before s.markers && nat_lt 0 (length s.markers) && nat_lt (length s.markers) (length s.fine.tiles)
 
 abbrev pub allowed_fit : RawStep → Axis → Bool
 allowed_fit s axis = in_order (pair_fits (length s.fine.tiles)) pairs_follow (allowed s axis)

@@ -11,13 +11,13 @@ use Rattle.wt_step.specs.declared.raw.Lost.{Lost}
 use Rattle.wt_step.specs.declared.raw.StepFault.{StepFault}
 use Rattle.wt_step.specs.declared.raw.StepFault.TheVariants.{Radius, Fine, Coarse, Kept, LostList, LostNode, Join}
 use Rattle.wt_grid.specs.First.{or_else, first_from}
-use Rattle.wt_grid.specs.Order.{in_order, first_in, is_below, follows, agree}
+use Rattle.wt_grid.specs.Order.{in_order, first_in, is_below, comes_before, agree}
 use Rattle.wt_step.specs.Faults.{unless}
 
 -- The kept tiles ascend, are fine tiles, and are as many as the coarse tiles.
 
 abbrev pub kept_fit : RawRestrict → Bool
-kept_fit s = in_order (is_below (length s.fine.tiles)) follows s.kept && nat_eq (length s.kept) (length s.coarse.tiles)
+kept_fit s = in_order (is_below (length s.fine.tiles)) comes_before s.kept && nat_eq (length s.kept) (length s.coarse.tiles)
 
 abbrev pub is_kept : RawRestrict → ℕ → Bool
 is_kept s t = list_any (nat_eq t) s.kept

@@ -21,6 +21,6 @@ abbrev pub refuted_place : RawStep → Axis → ℕ → ℕ → ℕ → ℕ
 refuted_place s axis a b radius = passed (entry_before radius axis a b) s.refuted
 
 -- the places are those of this pair
-pub record IsPlaced (s : RawStep) (axis : Axis) (a b : ℕ) (places : Places) : Type 0 where
+pub record IsAtPlace (s : RawStep) (axis : Axis) (a b : ℕ) (places : Places) : Type 0 where
   pub allowed : places.allowed ≡ allowed_place s axis a b
   pub refuted : (radius : ℕ) → radius ≤ s.radius → slice_index places.refuted radius ≡ refuted_place s axis a b radius

@@ -14,7 +14,7 @@ use Rattle.wt_tile.specs.Matching.{matches}
 use Rattle.wt_refute.specs.declared.tree.Refuted.{Refuted}
 use Rattle.wt_step.specs.declared.raw.RawStep.{RawStep}
 use Rattle.wt_refute.specs.Entries.{is_entry}
-use Rattle.wt_grid.specs.Pairs.{is_pair}
+use Rattle.wt_grid.specs.Pairs.{is_this_pair}
 use Rattle.wt_grid.specs.First.{count_from}
 
 -- Refutations.
@@ -48,7 +48,7 @@ allowed s One = s.allowed1
 allowed s Two = s.allowed2
 
 abbrev pub allows : RawStep → Axis → ℕ → ℕ → Bool
-allows s axis a b = list_any (is_pair a b) (allowed s axis)
+allows s axis a b = list_any (is_this_pair a b) (allowed s axis)
 
 abbrev pub is_marker : RawStep → ℕ → Bool
 is_marker s a = list_any (nat_eq a) s.markers

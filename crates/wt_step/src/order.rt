@@ -1,13 +1,13 @@
 // Lists in strict order, and look-ups in them.
 ghost use Rattle.std.specs.Prelude.{◌≡◌, nat_eq};
 ghost use Rattle.std.specs.List.{list_any};
-ghost use Rattle.wt_grid.specs.Order.{in_order, leads, is_below, follows};
+ghost use Rattle.wt_grid.specs.Order.{in_order, leads, is_below, comes_before};
 ghost use Rattle.wt_grid.specs.Pairs.{pairs_follow};
 ghost use Rattle.wt_grid.specs.Pairs as spec;
 
 /// Whether numbers ascend and are below a bound.
 pub fn numbers_ascend(below: usize, numbers: &[u16]) -> bool
-    ensures { result ≡ in_order (is_below below) follows numbers.now }
+    ensures { result ≡ in_order (is_below below) comes_before numbers.now }
 {
     let mut left = numbers;
     while let [number, after @ ..] = left {
@@ -20,7 +20,7 @@ pub fn numbers_ascend(below: usize, numbers: &[u16]) -> bool
 }
 
 fn number_leads(number: u16, after: &[u16]) -> bool
-    ensures { result ≡ leads follows number after.now }
+    ensures { result ≡ leads comes_before number after.now }
 {
     match after {
         [] => true,
@@ -47,7 +47,7 @@ pub fn pair_before(a: u16, b: u16, pair: (u16, u16)) -> bool
 }
 
 pub fn is_pair(a: u16, b: u16, pair: (u16, u16)) -> bool
-    ensures { result ≡ spec.is_pair a b pair }
+    ensures { result ≡ spec.is_this_pair a b pair }
 {
     pair.0 == a && pair.1 == b
 }

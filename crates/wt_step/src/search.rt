@@ -8,8 +8,8 @@ use crate::order::{is_pair, pair_before};
 
 /// Whether a pair stands in a list in order.
 pub fn has_pair(a: u16, b: u16, pairs: &[(u16, u16)]) -> bool
-    requires { IsSplit (spec.pair_before a b) (spec.is_pair a b) pairs.now }
-    ensures { result ≡ list_any (spec.is_pair a b) pairs.now }
+    requires { IsSplit (spec.pair_before a b) (spec.is_this_pair a b) pairs.now }
+    ensures { result ≡ list_any (spec.is_this_pair a b) pairs.now }
 {
     let mut left = pairs;
     loop {

@@ -6,7 +6,7 @@ ghost use Rattle.wt_refute.specs.Entries as refute_entries;
 ghost use Rattle.wt_step.specs.Words as words;
 ghost use Rattle.wt_step.specs.Faults.{IsShaped};
 ghost use Rattle.wt_step.specs.Faults as faults;
-ghost use Rattle.wt_step.specs.Walk.{IsPlaced, allowed_place, refuted_place};
+ghost use Rattle.wt_step.specs.Walk.{IsAtPlace, allowed_place, refuted_place};
 
 use crate::order::is_pair;
 use crate::shape::{allowed, count_tiles};
@@ -40,7 +40,7 @@ fn first_refuted(raw: &RawStep, axis: Axis, radius: u8, from: usize) -> usize
 /// The places at the pair of tile 0 and tile 0.
 fn first_places(raw: &RawStep, axis: Axis) -> Places
     requires { IsShaped raw.now }
-    ensures { IsPlaced raw.now axis 0 0 result }
+    ensures { IsAtPlace raw.now axis 0 0 result }
 {
     let mut refuted = [0usize; 5];
     let mut place = 0usize;
@@ -125,8 +125,8 @@ fn refuted_after(raw: &RawStep, axis: Axis, a: u16, b: u16, radius: u8, place: u
 /// The places at the next pair of the row.
 fn next_places(raw: &RawStep, axis: Axis, a: u16, b: u16, places: &Places) -> Places
     requires shaped { IsShaped raw.now }
-    requires placed { IsPlaced raw.now axis a b places.now }
-    ensures { IsPlaced raw.now axis a (b + 1) result }
+    requires placed { IsAtPlace raw.now axis a b places.now }
+    ensures { IsAtPlace raw.now axis a (b + 1) result }
 {
     let mut refuted = [0usize; 5];
     for radius in 0..raw.radius + 1 {
@@ -142,7 +142,7 @@ fn next_places(raw: &RawStep, axis: Axis, a: u16, b: u16, places: &Places) -> Pl
 /// Whether the tiles of the pair match and aren't allowed.
 fn is_barred_here(raw: &RawStep, axis: Axis, a: u16, b: u16, places: &Places) -> bool
     requires shaped { IsShaped raw.now }
-    requires placed { IsPlaced raw.now axis a b places.now }
+    requires placed { IsAtPlace raw.now axis a b places.now }
     ensures { result ≡ words.is_barred raw.now axis a b }
 {
     is_match(raw.fine.tiles.as_slice(), axis, a, b)
@@ -153,7 +153,7 @@ fn is_barred_here(raw: &RawStep, axis: Axis, a: u16, b: u16, places: &Places) ->
 #[tactic(auto, using(wt_grid::proofs::First::count_more))]
 fn times(raw: &RawStep, axis: Axis, a: u16, b: u16, places: &Places) -> usize
     requires shaped { IsShaped raw.now }
-    requires placed { IsPlaced raw.now axis a b places.now }
+    requires placed { IsAtPlace raw.now axis a b places.now }
     ensures { result ≡ words.times raw.now axis a b }
 {
     let mut count = 0usize;
@@ -167,7 +167,7 @@ fn times(raw: &RawStep, axis: Axis, a: u16, b: u16, places: &Places) -> usize
 
 fn is_named_well(raw: &RawStep, axis: Axis, a: u16, b: u16, places: &Places) -> bool
     requires shaped { IsShaped raw.now }
-    requires placed { IsPlaced raw.now axis a b places.now }
+    requires placed { IsAtPlace raw.now axis a b places.now }
     ensures { result ≡ faults.is_named_well raw.now axis a b }
 {
     let named = times(raw, axis, a, b, places);
@@ -190,7 +190,7 @@ fn tree_fault_at(
     places: &Places,
 ) -> Option<StepFault>
     requires shaped { IsShaped raw.now }
-    requires placed { IsPlaced raw.now axis a b places.now }
+    requires placed { IsAtPlace raw.now axis a b places.now }
     requires small { radius ≤ raw.now.radius }
     ensures { result ≡ faults.tree_fault_at raw.now axis a b radius }
 {
@@ -214,7 +214,7 @@ fn tree_fault_at(
 #[tactic(auto, using(wt_grid::proofs::First::first_more))]
 fn trees_fault(raw: &RawStep, axis: Axis, a: u16, b: u16, places: &Places) -> Option<StepFault>
     requires shaped { IsShaped raw.now }
-    requires placed { IsPlaced raw.now axis a b places.now }
+    requires placed { IsAtPlace raw.now axis a b places.now }
     ensures { result ≡ faults.trees_fault raw.now axis a b }
 {
     for radius in 0..raw.radius + 1 {
@@ -227,7 +227,7 @@ fn trees_fault(raw: &RawStep, axis: Axis, a: u16, b: u16, places: &Places) -> Op
 
 fn pair_fault(raw: &RawStep, axis: Axis, a: u16, b: u16, places: &Places) -> Option<StepFault>
     requires shaped { IsShaped raw.now }
-    requires placed { IsPlaced raw.now axis a b places.now }
+    requires placed { IsAtPlace raw.now axis a b places.now }
     ensures { result ≡ faults.pair_fault raw.now axis a b }
 {
     if !is_named_well(raw, axis, a, b, places) {
@@ -244,9 +244,9 @@ fn pair_fault(raw: &RawStep, axis: Axis, a: u16, b: u16, places: &Places) -> Opt
 #[tactic(auto, using(wt_grid::proofs::First::first_more))]
 fn row_fault(raw: &RawStep, axis: Axis, a: u16, at_row: Places) -> Result<Places, StepFault>
     requires shaped { IsShaped raw.now }
-    requires placed { IsPlaced raw.now axis a 0 at_row }
+    requires placed { IsAtPlace raw.now axis a 0 at_row }
     ensures { MatchResult result
-        (λ next. (faults.row_fault raw.now axis a ≡ None) × IsPlaced raw.now axis (a + 1) 0 next)
+        (λ next. (faults.row_fault raw.now axis a ≡ None) × IsAtPlace raw.now axis (a + 1) 0 next)
         (λ fault. faults.row_fault raw.now axis a ≡ Some fault) }
 {
     let mut places = at_row;

@@ -5,8 +5,8 @@ use Rattle.std.specs.Str.{bytes_eq}
 use Rattle.std.proofs.lemmas.Bool.{eqb-true, leb-true, le-leb}
 use Rattle.std.proofs.lemmas.Slice.Eq.{bytes_eq-Decides}
 use Rattle.wt_text.specs.Words.{number}
-use Rattle.wt_text.specs.Readers.{◌>>=◌, pair, after, within, number_to, either_word, behind, both, joined, counted, numbers_to, counted_numbers, LineFault, wrong, past, judged, judge, whole}
-use Rattle.wt_text.specs.Spellings.{IsClean, AllFit, IsSome, number_spelling, behind_spelling, both_spelling, counted_spelling}
+use Rattle.wt_text.specs.Readers.{◌>>=◌, pair, after, within, number_to, either_word, value_behind, both, value_in_front, counted, numbers_to, counted_numbers, LineFault, wrong, past, judged, judge, whole}
+use Rattle.wt_text.specs.Spellings.{IsClean, AllFit, IsNotEmpty, number_spelling, behind_spelling, both_spelling, counted_spelling}
 use Rattle.wt_text.proofs.Numbers.{number_found, number_again, decimal_clean, some_is}
 
 -- the value of a step that did not fail
@@ -66,8 +66,8 @@ pub after_again : (w : List ℕ) (rest : List (List ℕ)) → after w (w ∷ res
 after_again w rest = let same : bytes_eq w w ≡ true = (bytes_eq-Decides w w).1 refl in rw same refl
 
 pub behind_format : {W A : Type 0} {read : List (List ℕ) → Option (Result A W × List (List ℕ))} {spell : A → List (List ℕ)} {Fits : A → Type 0} (w : List ℕ) → IsClean w
-    → IsFormat read spell Fits → IsFormat (behind w read) (behind_spelling w spell) Fits
-unfolding behind
+    → IsFormat read spell Fits → IsFormat (value_behind w read) (behind_spelling w spell) Fits
+unfolding value_behind
 behind_format {read = read} {spell = spell} w c f = record {
   found = λ ts x rest e.
       let a = bind_some (after w ts) read (Ok x, rest) e in
@@ -101,7 +101,7 @@ both_format {W} {A} {B} {ra} {sa} {Fa} {rb} {sb} {Fb} f g = record {
   clean = λ x fits. clean_both (sa x.0) (sb x.1) (f.clean x.0 fits.0) (g.clean x.1 fits.1);
 }
 
-pub joined_ok : {W A : Type 0} (a : Result A W) (r : Result (List A) W) (xs : List A) → joined a r ≡ Ok xs → (x : A) × (ys : List A) × (xs ≡ x ∷ ys) × (a ≡ Ok x) × (r ≡ Ok ys)
+pub joined_ok : {W A : Type 0} (a : Result A W) (r : Result (List A) W) (xs : List A) → value_in_front a r ≡ Ok xs → (x : A) × (ys : List A) × (xs ≡ x ∷ ys) × (a ≡ Ok x) × (r ≡ Ok ys)
 joined_ok (Ok a) (Ok as') xs e = (a, as', cc, refl, refl)
 joined_ok (Ok a) (Err w) xs e = absurd cc
 joined_ok (Err w) r xs e = absurd cc
@@ -133,7 +133,7 @@ pub record IsLine {W A : Type 0} (read : List (List ℕ) → Result A (LineFault
   pub found : (ts : List (List ℕ)) (x : A) → read ts ≡ Ok x → (ts ≡ spell x) × Fits x
   pub again : (x : A) → Fits x → read (spell x) ≡ Ok x
   pub clean : (x : A) → Fits x → AllFit IsClean (spell x)
-  pub some : (x : A) → Fits x → IsSome (spell x)
+  pub some : (x : A) → Fits x → IsNotEmpty (spell x)
 
 append_nil : {A : Type 0} (x : List A) → x ++ [] ≡ x
 append_nil [] = refl
@@ -150,7 +150,7 @@ judge_ok {W} {A} (Some y) x e = go y.0 y.1 e
     go (Err w) (t ∷ ts) h = absurd cc
 
 pub fit_line : {W A : Type 0} {read : List (List ℕ) → Option (Result A W × List (List ℕ))} {spell : A → List (List ℕ)} {Fits : A → Type 0}
-    → ((x : A) → Fits x → IsSome (spell x)) → IsFormat read spell Fits → IsLine (whole read) spell Fits
+    → ((x : A) → Fits x → IsNotEmpty (spell x)) → IsFormat read spell Fits → IsLine (whole read) spell Fits
 unfolding whole
 fit_line {read = read} {spell = spell} some f = record {
   found = λ ts x e. let g = f.found ts x [] (judge_ok (read ts) x e) in (g.0 ∙ append_nil (spell x), g.1);
@@ -160,5 +160,5 @@ fit_line {read = read} {spell = spell} some f = record {
 }
 
 pub whole_line : {W A : Type 0} {read : List (List ℕ) → Option (Result A W × List (List ℕ))} {spell : A → List (List ℕ)} {Fits : A → Type 0}
-    → ((x : A) → IsSome (spell x)) → IsFormat read spell Fits → IsLine (whole read) spell Fits
+    → ((x : A) → IsNotEmpty (spell x)) → IsFormat read spell Fits → IsLine (whole read) spell Fits
 whole_line some f = fit_line (λ x fits. some x) f

@@ -5,8 +5,8 @@ use Rattle.std.specs.Str.{bytes_eq}
 use Rattle.std.proofs.lemmas.Bool.{eqb-true, leb-true, le-leb}
 use Rattle.std.proofs.lemmas.Slice.Eq.{bytes_eq-Decides}
 use Rattle.wt_text.specs.Words.{number}
-use Rattle.wt_text.specs.Readers.{◌>>=◌, pair, after, within, number_to, either_word, behind, both, joined, counted, numbers_to, counted_numbers, LineFault, wrong, past, judged, judge, whole}
-use Rattle.wt_text.specs.Spellings.{IsClean, AllFit, IsSome, number_spelling, behind_spelling, both_spelling, counted_spelling}
+use Rattle.wt_text.specs.Readers.{◌>>=◌, pair, after, within, number_to, either_word, value_behind, both, value_in_front, counted, numbers_to, counted_numbers, LineFault, wrong, past, judged, judge, whole}
+use Rattle.wt_text.specs.Spellings.{IsClean, AllFit, IsNotEmpty, number_spelling, behind_spelling, both_spelling, counted_spelling}
 use Rattle.wt_text.proofs.Numbers.{number_found, number_again, decimal_clean, some_is, if_some}
 use Rattle.wt_text.proofs.Formats.{IsFormat, IsLine, bind_some, read_is, pair_ok, within_ok, within_again, after_found, after_again, clean_both, judge_ok, numbers_found, numbers_again, numbers_clean}
 
@@ -23,8 +23,8 @@ pub last_of : {W A : Type 0} {read : List (List ℕ) → Option (Result A W × L
 last_of {read = read} {spell = spell} f = record { found = f.found; again = λ x fits. ap read (sym (append_nil (spell x))) ∙ f.again x [] fits; clean = f.clean }
 
 pub behind_last : {W A : Type 0} {read : List (List ℕ) → Option (Result A W × List (List ℕ))} {spell : A → List (List ℕ)} {Fits : A → Type 0} (w : List ℕ) → IsClean w
-    → IsLast read spell Fits → IsLast (behind w read) (behind_spelling w spell) Fits
-unfolding behind
+    → IsLast read spell Fits → IsLast (value_behind w read) (behind_spelling w spell) Fits
+unfolding value_behind
 behind_last {read = read} {spell = spell} w c f = record {
   found = λ ts x rest e.
       let a = bind_some (after w ts) read (Ok x, rest) e in
@@ -53,7 +53,7 @@ both_last {W} {A} {B} {ra} {sa} {Fa} {rb} {sb} {Fb} f g = record {
 }
 
 pub whole_last : {W A : Type 0} {read : List (List ℕ) → Option (Result A W × List (List ℕ))} {spell : A → List (List ℕ)} {Fits : A → Type 0}
-    → ((x : A) → IsSome (spell x)) → IsLast read spell Fits → IsLine (whole read) spell Fits
+    → ((x : A) → IsNotEmpty (spell x)) → IsLast read spell Fits → IsLine (whole read) spell Fits
 unfolding whole
 whole_last {read = read} {spell = spell} some f = record {
   found = λ ts x e. let g = f.found ts x [] (judge_ok (read ts) x e) in (g.0 ∙ append_nil (spell x), g.1);

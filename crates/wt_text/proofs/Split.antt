@@ -4,13 +4,13 @@ use Rattle.std.specs.List.{flat_map}
 use Rattle.std.proofs.lemmas.Bool.{eqb-true}
 use Rattle.wt_text.specs.Words.{tokens, in_first, spaced}
 use Rattle.wt_text.specs.Lines.{Line, lines, in_line, line_of, bytes_of}
-use Rattle.wt_text.specs.Spellings.{IsClean, AllFit, IsSome}
+use Rattle.wt_text.specs.Spellings.{IsClean, AllFit, IsNotEmpty}
 
-pub some_tokens : (bs : List ℕ) → IsSome (tokens bs)
+pub some_tokens : (bs : List ℕ) → IsNotEmpty (tokens bs)
 some_tokens [] = tt
 some_tokens (b ∷ bs) = go (nat_eq b 32) (tokens bs)
   where
-    go : (s : Bool) (ts : List (List ℕ)) → IsSome (cond s ([] ∷ ts) (in_first b ts))
+    go : (s : Bool) (ts : List (List ℕ)) → IsNotEmpty (cond s ([] ∷ ts) (in_first b ts))
     go true ts = tt
     go false [] = tt
     go false (t ∷ ts) = tt
@@ -20,7 +20,7 @@ spaced_first b [] = refl
 spaced_first b (t ∷ []) = refl
 spaced_first b (t ∷ u ∷ ts) = refl
 
-spaced_empty : (ts : List (List ℕ)) → IsSome ts → spaced ([] ∷ ts) ≡ 32 ∷ spaced ts
+spaced_empty : (ts : List (List ℕ)) → IsNotEmpty ts → spaced ([] ∷ ts) ≡ 32 ∷ spaced ts
 spaced_empty [] s = absurd s
 spaced_empty (t ∷ ts) s = refl
 
@@ -42,7 +42,7 @@ first_token [] bs c = refl
 first_token (b ∷ t) bs c = rw (c.0, first_token t bs c.2) refl
 
 -- clean tokens are those of their line
-pub tokens_spaced : (ts : List (List ℕ)) → IsSome ts → AllFit IsClean ts → tokens (spaced ts) ≡ ts
+pub tokens_spaced : (ts : List (List ℕ)) → IsNotEmpty ts → AllFit IsClean ts → tokens (spaced ts) ≡ ts
 tokens_spaced [] s c = absurd s
 tokens_spaced (t ∷ []) s c = one_token t c.0
 tokens_spaced (t ∷ u ∷ ts) s c = first_token t (spaced (u ∷ ts)) c.0 ∙ ap (λ (r : List (List ℕ)). t ∷ r) (tokens_spaced (u ∷ ts) tt c.1)

@@ -4,7 +4,7 @@ use Rattle.std.specs.List.{flat_map}
 use Rattle.wt_text.specs.Words.{tokens, spaced}
 use Rattle.wt_text.specs.Lines.{Line, line_of, lines, bytes_of}
 use Rattle.wt_text.specs.Readers.{◌then◌, LineFault, wrong, past, TextFault, syntax_at, limit_at, faulty, line_read, line_at, one_line, both_parts, many_parts, counted_parts, ended_here, whole_text}
-use Rattle.wt_text.specs.Spellings.{IsClean, AllFit, IsSome, both_spelling, line_spelling, FitInTurn}
+use Rattle.wt_text.specs.Spellings.{IsClean, AllFit, IsNotEmpty, both_spelling, line_spelling, FitInTurn}
 use Rattle.wt_text.proofs.Split.{spaced_tokens, tokens_spaced, AllClean, lines_again, bytes_lines}
 use Rattle.wt_text.proofs.Formats.{IsLine}
 

@@ -42,8 +42,8 @@ either_word v a w b [] = None
 either_word v a w b (t ∷ ts) = if bytes_eq t v then Some (Ok a, ts) else if bytes_eq t w then Some (Ok b, ts) else None
 
 -- a word, and then a value
-unfoldable pub behind : {W A : Type 0} → List ℕ → (List (List ℕ) → Option (Result A W × List (List ℕ))) → List (List ℕ) → Option (Result A W × List (List ℕ))
-behind w read ts = after w ts >>= read
+unfoldable pub value_behind : {W A : Type 0} → List ℕ → (List (List ℕ) → Option (Result A W × List (List ℕ))) → List (List ℕ) → Option (Result A W × List (List ℕ))
+value_behind w read ts = after w ts >>= read
 
 -- no token, where the value is known
 abbrev pub given : {W A : Type 0} → A → List (List ℕ) → Option (Result A W × List (List ℕ))
@@ -72,10 +72,10 @@ unfoldable pub both : {W A B : Type 0} → (List (List ℕ) → Option (Result A
 both ra rb ts = ra ts >>= λ a. rb a.1 >>= λ b. Some (pair a.0 b.0, b.1)
 
 -- a value in front of others
-abbrev pub joined : {W A : Type 0} → Result A W → Result (List A) W → Result (List A) W
-joined (Ok a) (Ok as') = Ok (a ∷ as')
-joined (Ok a) (Err w) = Err w
-joined (Err w) r = Err w
+abbrev pub value_in_front : {W A : Type 0} → Result A W → Result (List A) W → Result (List A) W
+value_in_front (Ok a) (Ok as') = Ok (a ∷ as')
+value_in_front (Ok a) (Err w) = Err w
+value_in_front (Err w) r = Err w
 
 -- a count in front of what it counts
 abbrev pub counted : {W A : Type 0} → Result ℕ W → Result A W → Result A W
@@ -85,7 +85,7 @@ counted (Err w) r = Err w
 -- numbers to the end of the line
 abbrev pub numbers_to : {W : Type 0} → ℕ → W → List (List ℕ) → Option (Result (List ℕ) W)
 numbers_to most what [] = Some (Ok [])
-numbers_to most what (t ∷ ts) = number t >>= λ n. numbers_to most what ts >>= λ ns. Some (joined (within most what n) ns)
+numbers_to most what (t ∷ ts) = number t >>= λ n. numbers_to most what ts >>= λ ns. Some (value_in_front (within most what n) ns)
 
 -- a count, and so many numbers to the end of the line
 abbrev pub counted_numbers : {W : Type 0} → ℕ → W → ℕ → W → List (List ℕ) → Option (Result (List ℕ) W × List (List ℕ))

@@ -12,9 +12,9 @@ abbrev pub AllFit : {A : Type 0} → (A → Type 0) → List A → Type 0
 AllFit P [] = Unit {0}
 AllFit P (x ∷ xs) = P x × AllFit P xs
 
-abbrev pub IsSome : {A : Type 0} → List A → Type 0
-IsSome [] = ⊥
-IsSome (x ∷ xs) = Unit {0}
+abbrev pub IsNotEmpty : {A : Type 0} → List A → Type 0
+IsNotEmpty [] = ⊥
+IsNotEmpty (x ∷ xs) = Unit {0}
 
 abbrev pub number_spelling : ℕ → List (List ℕ)
 number_spelling n = decimal n ∷ []

@@ -2,7 +2,7 @@ use Rattle.std.proofs.Common.{arith, ◌≡◌, ◌+◌, ◌-◌, ◌<◌, lengt
 use Rattle.std.proofs.lemmas.Bool.{and_parts, ltb-true}
 use Rattle.wt_refute.specs.Refutation.{branch, node_count, count_in}
 use Rattle.wt_refute.specs.View.{children_view}
-use Rattle.wt_refute.specs.Placed.{placed, place, tile_in, is_free, is_vacant, fits, fitting, passing}
+use Rattle.wt_refute.specs.Placed.{placed, place, tile_in, is_free, is_vacant, fits_cell, fitting, passing}
 use Rattle.wt_refute.proofs.Walked.{taken_back}
 use Rattle.wt_refute.specs.Standard.{tree_within, first_citation, tightest, branches_with}
 use Rattle.std.specs.Prelude.{slice_set}
@@ -60,7 +60,7 @@ loop-tile-preserved t c =
       same = back;
       within = rw e c.loop-tile.invariant.within;
       free = rw e c.loop-tile.invariant.free;
-      made = subst (λ (cells : List (Option ℕ)). join (children_view c.push.new.self) (branches_with (tree_at c.args.tiles.now c.args.radius c.args.known.now (c.args.depth - 1) (placed c.args.shape cells) c.from-at.result) (passing (fits c.args.tiles.now (placed c.args.shape cells) c.from-at.result) (c.loop-tile.tile + 1) (length c.args.tiles.now - (c.loop-tile.tile + 1))))
+      made = subst (λ (cells : List (Option ℕ)). join (children_view c.push.new.self) (branches_with (tree_at c.args.tiles.now c.args.radius c.args.known.now (c.args.depth - 1) (placed c.args.shape cells) c.from-at.result) (passing (fits_cell c.args.tiles.now (placed c.args.shape cells) c.from-at.result) (c.loop-tile.tile + 1) (length c.args.tiles.now - (c.loop-tile.tile + 1))))
           ≡ branches_with (tree_at c.args.tiles.now c.args.radius c.args.known.now (c.args.depth - 1) (placed c.args.shape cells) c.from-at.result) (fitting c.args.tiles.now (placed c.args.shape cells) c.from-at.result)) (sym e)
           (rw pushed made);
       spent = rw pushed (paid c.args.tiles.now c.args.radius c.args.known.now (placed c.args.shape c.loop-tile.cells) c.loop-tile.children (record { tile = c.loop-tile.tile; tree = c.in-Ok.tree }) _ c.loop-tile.left c.in-Ok.rest c.args.budget grown.0 grown.1 c.loop-tile.invariant.spent);

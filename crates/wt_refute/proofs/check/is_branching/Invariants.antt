@@ -2,10 +2,10 @@ use Rattle.std.proofs.Common.{◌≡◌, ◌-◌, length, drop}
 use Rattle.std.specs.Str.{bytes_eq}
 use Rattle.wt_refute.specs.Refutation.{tiles_in}
 use Rattle.wt_refute.specs.View.{children_view}
-use Rattle.wt_refute.specs.Placed.{placed, fits, fitting, passing}
+use Rattle.wt_refute.specs.Placed.{placed, fits_cell, fitting, passing}
 use Rattle.wt_refute.proofs.check.is_branching.Given as goal
 
 abbrev pub invariant-loop-child : goal.invariant-loop-child
 invariant-loop-child l =
-    bytes_eq (tiles_in (children_view (drop l.child-index l.children))) (passing (fits l.tiles (placed l.shape l.cells) l.cell) l.from (length l.tiles - l.from))
+    bytes_eq (tiles_in (children_view (drop l.child-index l.children))) (passing (fits_cell l.tiles (placed l.shape l.cells) l.cell) l.from (length l.tiles - l.from))
     ≡ bytes_eq (tiles_in (children_view l.children)) (fitting l.tiles (placed l.shape l.cells) l.cell)

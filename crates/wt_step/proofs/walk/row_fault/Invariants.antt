@@ -1,11 +1,11 @@
 use Rattle.std.proofs.Common.{◌≡◌, ◌-◌, length}
 use Rattle.wt_grid.specs.First.{first_from}
 use Rattle.wt_step.specs.Faults.{pair_fault, row_fault}
-use Rattle.wt_step.specs.Walk.{IsPlaced}
+use Rattle.wt_step.specs.Walk.{IsAtPlace}
 use Rattle.wt_step.proofs.walk.row_fault.Given as goal
 
 abbrev pub invariant-loop-b : goal.invariant-loop-b
 invariant-loop-b l = record {
   first : first_from (pair_fault l.raw l.axis l.a) l.b (length l.raw.fine.tiles - l.b) ≡ row_fault l.raw l.axis l.a;
-  placed : IsPlaced l.raw l.axis l.a l.b l.places;
+  placed : IsAtPlace l.raw l.axis l.a l.b l.places;
 }
