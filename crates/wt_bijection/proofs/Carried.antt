@@ -1,14 +1,14 @@
 -- A list without a fault is a renaming, and a renaming has no fault.
 use Rattle.std.proofs.Common.{arith, ◌≡◌, ◌<◌, ◌≤◌, ◌+◌, ℕ, zero, suc, List, [], ◌∷◌, length, take, get_or, slice_index, Option, None, Some, Bool, true, false, ◌&&◌, ◌||◌, not, nat_eq, nat_lt, if◌then◌else◌, refl, sym, ◌∙◌, ap, inl, inr}
+use Rattle.wt_grid.proofs.Order.{agreed, agrees}
 use Rattle.std.specs.List.{list_any}
-use Rattle.std.proofs.lemmas.Bool.{cases_lt}
+use Rattle.std.proofs.lemmas.Bool.{cases_lt, and_parts, not-true, and_from}
 use Rattle.std.proofs.lemmas.Bool.Decides.{nat_tests}
 use Rattle.wt_tile.specs.declared.tile.Tile.{Tile}
 use Rattle.wt_tile.specs.Matching.{tile_at}
 use Rattle.wt_grid.specs.First.{first_from}
 use Rattle.wt_grid.specs.Order.{agree}
 use Rattle.wt_grid.proofs.First.{none_from}
-use Rattle.wt_grid.proofs.Order.{both}
 use Rattle.wt_bijection.specs.Renaming.{all_from, pairs_up, tiles_pair_up, colours_fit_at, colours_fit, partner_fits, wrong_at, first_wrong, renaming_fault}
 use Rattle.wt_bijection.specs.Carried.{CarriesColours, IsRenaming}
 use Rattle.wt_bijection.proofs.Lengths.{no_fault}
@@ -16,23 +16,6 @@ use Rattle.wt_bijection.proofs.Onto.{onto}
 use Rattle.wt_bijection.proofs.Colours.{stands, first_is, second_is}
 
 -- Booleans.
-
-agreed : (a b : Bool) → agree a b ≡ true → a ≡ b
-agreed true b e = sym e
-agreed false true e = absurd (cc e)
-agreed false false e = refl
-
-agrees : (a b : Bool) → a ≡ b → agree a b ≡ true
-agrees true b e = sym e
-agrees false true e = absurd (cc e)
-agrees false false e = refl
-
-not_true : (a : Bool) → not a ≡ true → a ≡ false
-not_true true e = absurd (cc e)
-not_true false e = refl
-
-all_true : (a b : Bool) → a ≡ true → b ≡ true → (a && b) ≡ true
-all_true a b e f = rw (e, f) refl
 
 equal_test : (a b : ℕ) → a ≡ b → nat_eq a b ≡ true
 equal_test a b e = grind (arith, nat_tests, e)
@@ -70,13 +53,13 @@ record PairUp (t u v w : Tile) : Type 0 where
 eight : (a b c d e f g h : Bool) → (a && b && c && d && e && f && g && h) ≡ true
     → (a ≡ true) × (b ≡ true) × (c ≡ true) × (d ≡ true) × (e ≡ true) × (f ≡ true) × (g ≡ true) × (h ≡ true)
 eight a b c d e f g h s =
-    let p = both (a && b && c && d && e && f && g) h s in
-    let q = both (a && b && c && d && e && f) g p.0 in
-    let r = both (a && b && c && d && e) f q.0 in
-    let t = both (a && b && c && d) e r.0 in
-    let u = both (a && b && c) d t.0 in
-    let v = both (a && b) c u.0 in
-    let w = both a b v.0 in
+    let p = and_parts (a && b && c && d && e && f && g) h s in
+    let q = and_parts (a && b && c && d && e && f) g p.0 in
+    let r = and_parts (a && b && c && d && e) f q.0 in
+    let t = and_parts (a && b && c && d) e r.0 in
+    let u = and_parts (a && b && c) d t.0 in
+    let v = and_parts (a && b) c u.0 in
+    let w = and_parts a b v.0 in
     (w.0, w.1, v.1, u.1, t.1, r.1, q.1, p.1)
 
 paired : (t u v w : Tile) → tiles_pair_up t u v w ≡ true → PairUp t u v w
@@ -91,7 +74,7 @@ unpaired t u v w h = rw (h.ee, h.ew, h.we, h.ww, h.nn, h.ns, h.sn, h.ss) refl
 all_at : (p : ℕ → Bool) (i n k : ℕ) → all_from p i n ≡ true → i ≤ k → k < i + n → p k ≡ true
 all_at p i zero k e low high = absurd (omega arith)
 all_at p i (suc n) k e low high =
-    let b = both (p i) (all_from p (i + 1) n) e in
+    let b = and_parts (p i) (all_from p (i + 1) n) e in
     elim (cases_lt i k) [
       | inl lt ↦ all_at p (i + 1) n k b.1 (omega arith) (omega arith)
       | inr le ↦ let same : k ≡ i = omega arith in rw same b.0
@@ -99,7 +82,7 @@ all_at p i (suc n) k e low high =
 
 at_all : (p : ℕ → Bool) (i n : ℕ) → ((k : ℕ) → i ≤ k → k < i + n → p k ≡ true) → all_from p i n ≡ true
 at_all p i zero h = refl
-at_all p i (suc n) h = all_true (p i) (all_from p (i + 1) n) (h i (omega arith) (omega arith)) (at_all p (i + 1) n (λ k lo hi. h k (omega arith) (omega arith)))
+at_all p i (suc n) h = and_from (p i) (all_from p (i + 1) n) (h i (omega arith) (omega arith)) (at_all p (i + 1) n (λ k lo hi. h k (omega arith) (omega arith)))
 
 -- Numbers that came before.
 
@@ -131,11 +114,11 @@ record Fits (from to : List Tile) (list : List ℕ) (i : ℕ) : Type 0 where
 
 fits : (from to : List Tile) (list : List ℕ) (i : ℕ) → partner_fits from to list i ≡ true → Fits from to list i
 fits from to list i e =
-    let b = both (nat_lt (slice_index list i) (length to) && not (list_any (nat_eq (slice_index list i)) (take i list))) (colours_fit from to list i) e in
-    let c = both (nat_lt (slice_index list i) (length to)) (not (list_any (nat_eq (slice_index list i)) (take i list))) b.0 in
+    let b = and_parts (nat_lt (slice_index list i) (length to) && not (list_any (nat_eq (slice_index list i)) (take i list))) (colours_fit from to list i) e in
+    let c = and_parts (nat_lt (slice_index list i) (length to)) (not (list_any (nat_eq (slice_index list i)) (take i list))) b.0 in
     record {
       inside = grind (arith, nat_tests, c.0);
-      fresh = not_true (list_any (nat_eq (slice_index list i)) (take i list)) c.1;
+      fresh = not-true (list_any (nat_eq (slice_index list i)) (take i list)) c.1;
       colours = λ j le. paired (tile_at from j) (tile_at from i) (tile_at to (slice_index list j)) (tile_at to (slice_index list i))
           (all_at (colours_fit_at from to list i) 0 (i + 1) j b.1 (omega arith) (omega arith));
     }
@@ -279,8 +262,8 @@ right_at from to list r i lt =
     let colours : colours_fit from to list i ≡ true = at_all (colours_fit_at from to list i) 0 (i + 1)
     (λ j lo hi. unpaired (tile_at from j) (tile_at from i) (tile_at to (slice_index list j)) (tile_at to (slice_index list i)) (pair_of_tiles from to list r j i (omega arith) lt)) in
     let all : partner_fits from to list i ≡ true =
-    all_true (nat_lt (slice_index list i) (length to) && not (list_any (nat_eq (slice_index list i)) (take i list))) (colours_fit from to list i)
-    (all_true (nat_lt (slice_index list i) (length to)) (not (list_any (nat_eq (slice_index list i)) (take i list))) inside fresh) colours in
+    and_from (nat_lt (slice_index list i) (length to) && not (list_any (nat_eq (slice_index list i)) (take i list))) (colours_fit from to list i)
+    (and_from (nat_lt (slice_index list i) (length to)) (not (list_any (nat_eq (slice_index list i)) (take i list))) inside fresh) colours in
     rw all refl
 
 -- a renaming has no fault

@@ -1,5 +1,6 @@
 -- More readers put together: words that tell kinds apart, values seen as others, parts that go by the line before them.
 use Rattle.std.proofs.Common.{◌≡◌, ℕ, Bool, true, false, cond, List, [], ◌∷◌, ◌++◌, Option, Some, None, Result, Ok, Err, refl, sym, ap, ◌∙◌, append_assoc, subst}
+use Rattle.wt_names.proofs.Numbered.{self_equal}
 use Rattle.std.specs.Str.{bytes_eq}
 use Rattle.std.proofs.lemmas.Slice.Eq.{bytes_eq-Decides}
 use Rattle.wt_text.specs.Lines.{Line}
@@ -60,9 +61,6 @@ either_spelling v sa w sb (second b) = w ∷ sb b
 abbrev pub EitherFits : {A B : Type 0} → (A → Type 0) → (B → Type 0) → Either A B → Type 0
 EitherFits Fa Fb (first a) = Fa a
 EitherFits Fa Fb (second b) = Fb b
-
-self_equal : (t : List ℕ) → bytes_eq t t ≡ true
-self_equal t = (bytes_eq-Decides t t).1 refl
 
 pub either_format : {W A B : Type 0} (v : List ℕ) {ra : List (List ℕ) → Option (Result A W × List (List ℕ))} {sa : A → List (List ℕ)} {Fa : A → Type 0} (w : List ℕ) {rb : List (List ℕ) → Option (Result B W × List (List ℕ))} {sb : B → List (List ℕ)} {Fb : B → Type 0}
     → IsClean v → IsClean w → bytes_eq w v ≡ false → IsFormat ra sa Fa → IsFormat rb sb Fb → IsFormat (either_behind v ra w rb) (either_spelling v sa w sb) (EitherFits Fa Fb)

@@ -1,5 +1,6 @@
 -- A tree to the end of a line, both ways.
 use Rattle.std.proofs.Common.{arith, ◌≡◌, ℕ, zero, suc, ◌+◌, ◌≤◌, Bool, true, List, [], ◌∷◌, ◌++◌, Some, Result, Ok, Err, refl, sym, ap, ◌∙◌}
+use Rattle.std.proofs.lemmas.List.{append-nil}
 use Rattle.wt_grid.specs.declared.axis.Axis.TheVariants.{One, Two}
 use Rattle.wt_grid.specs.declared.axis.Axis.{Axis}
 use Rattle.wt_line.specs.declared.faults.What.{What}
@@ -12,10 +13,6 @@ use Rattle.wt_refute.specs.Refutation.{Refutation, Branches, branch, cite, no_mo
 use Rattle.wt_cert.specs.Trees.{branch_count, axis_word, tree_spelling, branches_spelling, is_forest, is_tree, tree_in, found_tree, tree_to_end, TreeFits, BranchesFit}
 use Rattle.wt_cert.proofs.TreesFound.{tree_found}
 use Rattle.wt_cert.proofs.TreesAgain.{tree_again, forest_form, children_again, cites_again}
-
-append_nil : {A : Type 0} (x : List A) → x ++ [] ≡ x
-append_nil [] = refl
-append_nil (y ∷ ys) = ap (λ (r : List _). y ∷ r) (append_nil ys)
 
 axis_clean : (axis : Axis) → IsClean (axis_word axis)
 axis_clean One = (refl, refl, (refl, refl, tt))
@@ -47,7 +44,7 @@ whole_form citing (suc levels) nodes (branch cell branches) fits =
     let few : branch_count branches ≤ 256 = fits.2 in
     let z : 0 + branch_count branches ≡ branch_count branches = omega arith in
     rw (is_decimal_again cell (omega (arith, le)), children_again citing (branch_count branches) (omega (arith, few)))
-    (ap (λ (m : ℕ). is_forest citing m (branches_spelling branches)) (sym z) ∙ ap (λ (l : List (List ℕ)). is_forest citing (0 + branch_count branches) l) (sym (append_nil (branches_spelling branches))) ∙ forest_form citing levels (nodes + 1) 0 branches [] fits.3)
+    (ap (λ (m : ℕ). is_forest citing m (branches_spelling branches)) (sym z) ∙ ap (λ (l : List (List ℕ)). is_forest citing (0 + branch_count branches) l) (sym (append-nil (branches_spelling branches))) ∙ forest_form citing levels (nodes + 1) 0 branches [] fits.3)
 
 pub tree_last : (citing : Bool) (nodes : ℕ) → IsLast (tree_to_end citing nodes) tree_spelling (TreeFits citing 90 nodes)
 unfolding tree_to_end
@@ -56,7 +53,7 @@ tree_last citing nodes = record {
       let p = if_some (is_tree citing ts) _ (Ok x, rest) e in
       (tree_found citing 90).finds nodes ts x rest (found_ok (tree_in citing 90 nodes ts) x rest p.1);
   again = λ x fits.
-      let one : tree_in citing 90 nodes (tree_spelling x) ≡ Ok (x, []) = ap (tree_in citing 90 nodes) (sym (append_nil (tree_spelling x))) ∙ tree_again citing 90 nodes x [] fits in
+      let one : tree_in citing 90 nodes (tree_spelling x) ≡ Ok (x, []) = ap (tree_in citing 90 nodes) (sym (append-nil (tree_spelling x))) ∙ tree_again citing 90 nodes x [] fits in
       let form : is_tree citing (tree_spelling x) ≡ true = whole_form citing 90 nodes x fits in
       rw (form, one) refl;
   clean = tree_clean citing 90 nodes;

@@ -3,7 +3,7 @@ use Rattle.std.proofs.Common.{arith, ◌≡◌, ℕ, zero, suc, ◌+◌, ◌≤�
 use Rattle.wt_grid.specs.declared.axis.Axis.TheVariants.{One, Two}
 use Rattle.std.specs.Str.{bytes_eq}
 use Rattle.std.specs.Fmt.{decimal}
-use Rattle.std.proofs.lemmas.Bool.{leb-true, ltb-true}
+use Rattle.std.proofs.lemmas.Bool.{leb-true, ltb-true, and_parts}
 use Rattle.std.proofs.lemmas.Slice.Eq.{bytes_eq-Decides}
 use Rattle.wt_line.specs.declared.faults.What.{What}
 use Rattle.wt_line.specs.declared.faults.What.TheVariants.{Tiles, Nodes, Depth, Number}
@@ -45,10 +45,6 @@ EndingFits citing (cites axis) = citing ≡ true
 some_is : {A : Type 0} (x y : A) → Some x ≡ Some y → x ≡ y
 some_is x y e = cc
 
-both_true : (a b : Bool) → (a && b) ≡ true → (a ≡ true) × (b ≡ true)
-both_true true b e = (refl, e)
-both_true false b e = absurd cc
-
 counts : (r : Option ℕ) (e : Ending) → option_map children r ≡ Some e → (n : ℕ) × (r ≡ Some n) × (e ≡ children n)
 counts None e h = absurd cc
 counts (Some n) e h = (n, refl, sym (some_is _ _ h))
@@ -69,7 +65,7 @@ ending_found citing t e h = first (citing && bytes_eq t (codes "c1")) refl (citi
 
     second : (b : Bool) → (citing && bytes_eq t (codes "c2")) ≡ b → ending_in (cond b (Some (cites Two)) (option_map children (number t))) ≡ Ok e → (t ≡ ending_spelling e) × EndingFits citing e
     second true k m =
-        let p = both_true citing _ k in
+        let p = and_parts citing _ k in
         let P : Ending → Type 0 = λ y. (t ≡ ending_spelling y) × EndingFits citing y in
         subst P (ok_is _ _ m) ((bytes_eq-Decides t (codes "c2")).0 p.1, p.0)
     second false k m = counted (number t) refl m
@@ -77,7 +73,7 @@ ending_found citing t e h = first (citing && bytes_eq t (codes "c1")) refl (citi
     first : (a : Bool) → (citing && bytes_eq t (codes "c1")) ≡ a → (b : Bool) → (citing && bytes_eq t (codes "c2")) ≡ b
         → ending_in (cond a (Some (cites One)) (cond b (Some (cites Two)) (option_map children (number t)))) ≡ Ok e → (t ≡ ending_spelling e) × EndingFits citing e
     first true k b l m =
-        let p = both_true citing _ k in
+        let p = and_parts citing _ k in
         let P : Ending → Type 0 = λ y. (t ≡ ending_spelling y) × EndingFits citing y in
         subst P (ok_is _ _ m) ((bytes_eq-Decides t (codes "c1")).0 p.1, p.0)
     first false k b l m = second b l m

@@ -17,7 +17,7 @@ use Rattle.wt_chain.specs.Sets.{last_set, set_behind, AreLinked, IsRun}
 use Rattle.wt_chain.specs.Faults.{unless, size_fault, step_fault_at, steps_fault_from, steps_fault, end_fault, chain_fault}
 use Rattle.wt_chain.proofs.Run.{run_from}
 
-holds : (b : Bool) (fault : Refusal) → unless b fault ≡ None → b ≡ true
+pub holds : (b : Bool) (fault : Refusal) → unless b fault ≡ None → b ≡ true
 holds true fault e = refl
 holds false fault e = absurd cc
 

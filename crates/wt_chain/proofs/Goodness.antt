@@ -1,12 +1,12 @@
 -- A chain without a fault is good, and a good chain has no fault.
 use Rattle.std.proofs.Common.{arith, ◌≡◌, ◌<◌, ◌≤◌, ◌+◌, ℕ, zero, suc, List, [], ◌∷◌, length, drop, Option, None, Some, option_map, Bool, true, false, ◌&&◌, nat_le, if◌then◌else◌, refl, sym, ◌∙◌, ap}
+use Rattle.std.proofs.lemmas.Bool.{and_parts}
 use Rattle.wt_grid.specs.declared.axis.Axis.TheVariants.{One, Two}
 use Rattle.std.proofs.lemmas.Bool.Decides.{nat_tests}
 use Rattle.wt_tile.specs.declared.tile.TileList.{TileList}
 use Rattle.wt_grid.specs.First.{or_else, first_from}
 use Rattle.wt_grid.specs.Widths.{width}
-use Rattle.wt_grid.proofs.First.{neither, none_from}
-use Rattle.wt_grid.proofs.Order.{both}
+use Rattle.wt_grid.proofs.First.{neither, none_from, all_none, none_under}
 use Rattle.wt_bijection.specs.Renaming.{renaming_fault}
 use Rattle.wt_bijection.proofs.Carried.{renaming, right}
 use Rattle.wt_step.specs.declared.raw.RawLink.{RawLink}
@@ -22,21 +22,13 @@ use Rattle.wt_chain.specs.Faults.{unless, steps_fault_from, steps_fault, growth_
 use Rattle.wt_chain.specs.Good.{Grows, GoodLoop, GoodEnd, GoodChain}
 use Rattle.wt_chain.proofs.Run.{run_from, equal_same_set}
 use Rattle.wt_chain.proofs.Turned.{wide, high}
-use Rattle.wt_chain.proofs.Good.{Parts, parts, no_fault}
-
-none_under : {A B : Type 0} (f : A → B) (a : Option A) → option_map f a ≡ None → a ≡ None
-none_under f None e = refl
-none_under f (Some x) e = absurd cc
-
-holds : (b : Bool) (fault : Refusal) → unless b fault ≡ None → b ≡ true
-holds true fault e = refl
-holds false fault e = absurd cc
+use Rattle.wt_chain.proofs.Good.{Parts, parts, no_fault, holds}
 
 -- Growth.
 
 grows : (loop : List RawLink) (renaming : List ℕ) (n t : ℕ) → has_grown loop renaming n t ≡ true → Grows loop renaming n t
 grows loop renaming n t e =
-    let b = both (nat_le 2 (width (turn_stages One loop renaming n) t)) (nat_le 2 (width (turn_stages Two loop renaming n) t)) e in
+    let b = and_parts (nat_le 2 (width (turn_stages One loop renaming n) t)) (nat_le 2 (width (turn_stages Two loop renaming n) t)) e in
     let w : 2 ≤ width (turn_stages One loop renaming n) t = grind (arith, nat_tests, b.0) in
     let h : 2 ≤ width (turn_stages Two loop renaming n) t = grind (arith, nat_tests, b.1) in
     record { wide = omega (arith, wide loop renaming n t); high = omega (arith, high loop renaming n t) }
@@ -48,10 +40,6 @@ grown loop renaming n t g =
     let is_wide : nat_le 2 (width (turn_stages One loop renaming n) t) ≡ true = grind (arith, nat_tests, w) in
     let is_high : nat_le 2 (width (turn_stages Two loop renaming n) t) ≡ true = grind (arith, nat_tests, h) in
     rw (is_wide, is_high) refl
-
-all_none : {A : Type 0} (f : ℕ → Option A) (i n : ℕ) → ((k : ℕ) → i ≤ k → k < i + n → f k ≡ None) → first_from f i n ≡ None
-all_none f i zero h = refl
-all_none f i (suc n) h = rw (h i (omega arith) (omega arith)) (all_none f (i + 1) n (λ k lo hi. h k (omega arith) (omega arith)))
 
 -- Loops.
 

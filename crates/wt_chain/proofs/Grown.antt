@@ -1,5 +1,6 @@
 -- The tables tell how large images grow.
 use Rattle.std.proofs.Common.{arith, ◌≡◌, ◌<◌, ◌≤◌, ◌+◌, ℕ, zero, suc, List, [], ◌∷◌, length, map, replicate, get_or, slice_index_or, Bool, true, false, ◌&&◌, ◌||◌, nat_eq, nat_lt, nat_le, if◌then◌else◌, Option, None, Some, option_map, refl, sym, ◌∙◌, ap}
+use Rattle.std.proofs.lemmas.Bool.{and_parts}
 use Rattle.std.specs.List.{list_all}
 use Rattle.wt_grid.specs.Traces.{piece_tiles}
 use Rattle.wt_grid.specs.Images.{first_tile}
@@ -16,8 +17,7 @@ use Rattle.wt_tile.proofs.Sizes.{few_tiles}
 use Rattle.wt_grid.specs.First.{or_else, first_from}
 use Rattle.wt_grid.specs.Order.{in_order, leads, is_below, comes_before}
 use Rattle.wt_grid.specs.Widths.{Stage, width, total}
-use Rattle.wt_grid.proofs.First.{neither}
-use Rattle.wt_grid.proofs.Order.{both}
+use Rattle.wt_grid.proofs.First.{neither, none_under}
 use Rattle.wt_step.specs.declared.raw.RawStep.{RawStep}
 use Rattle.wt_step.specs.declared.raw.RawRestrict.{RawRestrict}
 use Rattle.wt_step.specs.declared.raw.RawLink.{RawLink}
@@ -39,14 +39,14 @@ use Rattle.wt_chain.specs.Tables.{entry, grows_by, grows, next_table, climb, ori
 
 all_at : {A : Type 0} (p : A → Bool) (xs : List A) (t : ℕ) (d : A) → list_all p xs ≡ true → t < length xs → p (get_or xs t d) ≡ true
 all_at p [] t d e lt = absurd (omega arith)
-all_at p (x ∷ xs) zero d e lt = (both (p x) (list_all p xs) e).0
-all_at p (x ∷ xs) (suc t) d e lt = all_at p xs t d (both (p x) (list_all p xs) e).1 (omega arith)
+all_at p (x ∷ xs) zero d e lt = (and_parts (p x) (list_all p xs) e).0
+all_at p (x ∷ xs) (suc t) d e lt = all_at p xs t d (and_parts (p x) (list_all p xs) e).1 (omega arith)
 
 ordered_at : (n : ℕ) (xs : List ℕ) (t : ℕ) → in_order (is_below n) comes_before xs ≡ true → t < length xs → get_or xs t 0 < n
 ordered_at n [] t e lt = absurd (omega arith)
 ordered_at n (x ∷ xs) t e lt =
-    let b = both (is_below n x && leads comes_before x xs) (in_order (is_below n) comes_before xs) e in
-    let c = both (is_below n x) (leads comes_before x xs) b.0 in
+    let b = and_parts (is_below n x && leads comes_before x xs) (in_order (is_below n) comes_before xs) e in
+    let c = and_parts (is_below n x) (leads comes_before x xs) b.0 in
     at_place t lt (grind (arith, nat_tests, c.0)) (λ k l. ordered_at n xs k b.1 l)
   where
     at_place : (k : ℕ) → k < length (x ∷ xs) → x < n → ((j : ℕ) → j < length xs → get_or xs j 0 < n) → get_or (x ∷ xs) k 0 < n
@@ -55,21 +55,17 @@ ordered_at n (x ∷ xs) t e lt =
 
 fits_first : (n : ℕ) (image : Image) → image_fits n image ≡ true → first_tile image < n
 fits_first n (Single a) e = grind (arith, nat_tests, e)
-fits_first n (Double a b) e = let g = both (nat_lt a n) (nat_lt b n) e in grind (arith, nat_tests, g.0)
+fits_first n (Double a b) e = let g = and_parts (nat_lt a n) (nat_lt b n) e in grind (arith, nat_tests, g.0)
 
 marker_first : (s : RawStep) → step_fault s ≡ None → (t : ℕ) → t < length s.coarse.tiles → first_tile (slice_index_or s.images t (Single 0)) < length s.fine.tiles
 marker_first s e t lt =
-    let b = both (nat_eq (length s.images) (length s.coarse.tiles)) (list_all (image_fits (length s.fine.tiles)) s.images) (good_step s e).shaped.images in
+    let b = and_parts (nat_eq (length s.images) (length s.coarse.tiles)) (list_all (image_fits (length s.fine.tiles)) s.images) (good_step s e).shaped.images in
     let n : length s.images ≡ length s.coarse.tiles = grind (arith, nat_tests, b.0) in
     fits_first (length s.fine.tiles) (slice_index_or s.images t (Single 0)) (all_at (image_fits (length s.fine.tiles)) s.images t (Single 0) b.1 (omega arith))
 
 holds_kept : (b : Bool) → unless b Kept ≡ None → b ≡ true
 holds_kept true e = refl
 holds_kept false e = absurd cc
-
-none_under : {A B : Type 0} (f : A → B) (a : Option A) → option_map f a ≡ None → a ≡ None
-none_under f None e = refl
-none_under f (Some x) e = absurd cc
 
 restrict_sorts : (s : RawRestrict) → restrict_fault s ≡ None → (set_fault s.fine ≡ None) × (set_fault s.coarse ≡ None) × (kept_fit s ≡ true)
 unfolding restrict_fault sorting_fault
@@ -83,7 +79,7 @@ restrict_sorts s e =
 
 restrict_first : (s : RawRestrict) → restrict_fault s ≡ None → (t : ℕ) → t < length s.coarse.tiles → get_or s.kept t 0 < length s.fine.tiles
 restrict_first s e t lt =
-    let b = both (in_order (is_below (length s.fine.tiles)) comes_before s.kept) (nat_eq (length s.kept) (length s.coarse.tiles)) (restrict_sorts s e).2 in
+    let b = and_parts (in_order (is_below (length s.fine.tiles)) comes_before s.kept) (nat_eq (length s.kept) (length s.coarse.tiles)) (restrict_sorts s e).2 in
     let n : length s.kept ≡ length s.coarse.tiles = grind (arith, nat_tests, b.1) in
     ordered_at (length s.fine.tiles) s.kept t b.0 (omega arith)
 

@@ -1,5 +1,7 @@
 -- Images that ever grow have grown after as many turns as there are tiles.
 use Rattle.std.proofs.Common.{arith, ◌≡◌, ◌≢◌, ◌<◌, ◌≤◌, ◌+◌, ◌-◌, ℕ, zero, suc, List, [], ◌∷◌, length, Option, None, Some, is_none, Bool, true, false, ◌&&◌, ◌||◌, nat_le, min, if◌then◌else◌, refl, sym, ◌∙◌, ap, inl, inr}
+use Rattle.wt_chain.proofs.Good.{holds}
+use Rattle.std.specs.Cmp.{both_ways}
 use Rattle.wt_grid.specs.Traces.{piece_tiles}
 use Rattle.wt_grid.specs.Images.{first_tile}
 use Rattle.wt_grid.specs.declared.image.Image.TheVariants.{One as Single, Two as Double}
@@ -10,10 +12,9 @@ use Rattle.std.proofs.lemmas.Bool.Decides.{nat_tests}
 use Rattle.wt_tile.specs.declared.tile.TileList.{TileList}
 use Rattle.wt_tile.proofs.Sizes.{few_tiles}
 use Rattle.wt_grid.specs.First.{or_else, first_from}
-use Rattle.std.proofs.lemmas.Bool.{cases_lt}
+use Rattle.std.proofs.lemmas.Bool.{cases_lt, and_parts}
 use Rattle.wt_grid.specs.Widths.{Stage, width, total}
-use Rattle.wt_grid.proofs.First.{none_from}
-use Rattle.wt_grid.proofs.Order.{both}
+use Rattle.wt_grid.proofs.First.{none_from, all_none}
 use Rattle.wt_bijection.specs.Renaming.{renaming_fault}
 use Rattle.wt_bijection.proofs.Lengths.{no_fault}
 use Rattle.wt_step.specs.declared.raw.RawLink.{RawLink}
@@ -111,14 +112,6 @@ long_ever axis (link ∷ links) renaming h e m t le lt l =
         let whole = no_fault (last_set (coarse_of link) links).tiles (fine_of link).tiles renaming h.1 in
         follow_below (fine_of link) (link ∷ links) (origin renaming u) h.0 (origin_below 0 renaming u (length (last_set (coarse_of link) links).tiles) (omega arith) (omega arith))
 
-holds : (b : Bool) (fault : Refusal) → unless b fault ≡ None → b ≡ true
-holds true fault e = refl
-holds false fault e = absurd cc
-
-all_none : {A : Type 0} (f : ℕ → Option A) (i n : ℕ) → ((k : ℕ) → i ≤ k → k < i + n → f k ≡ None) → first_from f i n ≡ None
-all_none f i zero h = refl
-all_none f i (suc n) h = rw (h i (omega arith) (omega arith)) (all_none f (i + 1) n (λ k lo hi. h k (omega arith) (omega arith)))
-
 -- where some number of turns is enough, so is each from the number of tiles on
 pub enough_later : (loop : List RawLink) (renaming : List ℕ) → Closes loop renaming → (e m : ℕ) → first_count loop ≤ m
     → growth_fault loop renaming e (first_count loop) ≡ None → growth_fault loop renaming m (first_count loop) ≡ None
@@ -127,7 +120,7 @@ enough_later loop renaming h e m le g = all_none (growth_fault_at loop renaming 
     at_tile : (t : ℕ) → t < first_count loop → growth_fault_at loop renaming m t ≡ None
     at_tile t lt =
         let grown = holds (has_grown loop renaming e t) (Expansion t) (none_from (growth_fault_at loop renaming e) 0 (first_count loop) t g (omega arith) (omega arith)) in
-        let b = both (long One loop renaming e t) (long Two loop renaming e t) grown in
+        let b = and_parts (long One loop renaming e t) (long Two loop renaming e t) grown in
         let wide = long_ever One loop renaming h e m t le lt b.0 in
         let high = long_ever Two loop renaming h e m t le lt b.1 in
         rw (wide, high) refl
@@ -147,11 +140,6 @@ none_later loop renaming h none e g =
     let is : enough loop renaming n (n - 1) ≡ Some (n - 1 + 1) = rw last refl in
     cc
 
-same_bool : (a b : Bool) → (a ≡ true → b ≡ true) → (b ≡ true → a ≡ true) → a ≡ b
-same_bool true b there back = sym (there refl)
-same_bool false true there back = back refl
-same_bool false false there back = refl
-
 few_count : (loop : List RawLink) (renaming : List ℕ) → Closes loop renaming → first_count loop ≤ 256
 few_count [] renaming h = absurd h
 few_count (link ∷ links) renaming h = (few_tiles (fine_of link) (fine_good link h.0.0)).1
@@ -168,7 +156,7 @@ capped loop renaming h e = elim (cases_lt e 256) [
     along : (axis : Axis) → 256 ≤ e → (t : ℕ) → t < first_count loop → long axis loop renaming 256 t ≡ long axis loop renaming e t
     along axis more t lt =
         let few = few_count loop renaming h in
-        same_bool (long axis loop renaming 256 t) (long axis loop renaming e t)
+        both_ways (long axis loop renaming 256 t) (long axis loop renaming e t)
         (long_ever axis loop renaming h 256 e t (omega arith) lt) (long_ever axis loop renaming h e 256 t (omega arith) lt)
 
     at_tile : 256 ≤ e → (t : ℕ) → t < first_count loop → growth_fault_at loop renaming 256 t ≡ growth_fault_at loop renaming e t

@@ -1,16 +1,12 @@
 -- A path through n tiles that ever meets a mark meets one within n steps.
 use Rattle.std.proofs.Common.{arith, ◌≡◌, ◌<◌, ◌≤◌, ◌+◌, ◌-◌, ◌⊎◌, ℕ, zero, suc, List, length, get_or, Bool, true, false, ◌||◌, refl, sym, ◌∙◌, ap, inl, inr}
-use Rattle.std.proofs.lemmas.Bool.{cases_lt}
+use Rattle.std.proofs.lemmas.Bool.{cases_lt, or_right}
 use Rattle.wt_grid.specs.Grid.{listed}
 use Rattle.wt_grid.proofs.Bridge.{length-listed, get_or-listed}
 use Rattle.wt_bijection.proofs.Onto.{few_apart}
 
 clash : {b : Bool} → b ≡ true → b ≡ false → ⊥
 clash e f = cc
-
-either : (a b : Bool) → b ≡ true → (a || b) ≡ true
-either true b e = refl
-either false b e = e
 
 -- the tile that i steps lead to
 abbrev pub path : (ℕ → ℕ) → ℕ → ℕ → ℕ
@@ -93,7 +89,7 @@ module _ (c : ℕ → Bool) (g : ℕ → ℕ) (w : ℕ → ℕ → Bool) (start 
   meets : (e t i : ℕ) → i < e → c (path g i t) ≡ true → w e t ≡ true
   meets zero t i lt h = absurd (omega arith)
   meets (suc e) t zero lt h = more e t ∙ (rw h refl)
-  meets (suc e) t (suc i) lt h = more e t ∙ either (c t) (w e (g t)) (meets e (g t) i (omega arith) h)
+  meets (suc e) t (suc i) lt h = more e t ∙ or_right (c t) (w e (g t)) (meets e (g t) i (omega arith) h)
 
   -- what ever holds of a tile among n holds after n steps, and after all later ones
   pub ever : (n : ℕ) → ((u : ℕ) → u < n → g u < n) → (e m t : ℕ) → n ≤ m → t < n → w e t ≡ true → w m t ≡ true

@@ -1,5 +1,7 @@
 -- Steps without a fault are good, and each takes apart the set before it.
 use Rattle.std.proofs.Common.{arith, ◌≡◌, ◌≤◌, ◌+◌, ℕ, zero, suc, List, [], ◌∷◌, drop, length, Bool, true, false, ◌&&◌, nat_eq, Option, None, Some, option_map, Decides, refl, sym, ◌∙◌, ap}
+use Rattle.wt_chain.proofs.Good.{holds}
+use Rattle.std.proofs.lemmas.Bool.{and_parts}
 use Rattle.std.proofs.lemmas.Bool.Decides.{nat_tests}
 use Rattle.std.proofs.lemmas.Slice.Eq.{slice_eq-Decides, bytes_eq-Decides}
 use Rattle.std.specs.Cmp.Lexicographic.{pointwise}
@@ -11,8 +13,7 @@ use Rattle.wt_tile.proofs.Sizes.{few_tiles}
 use Rattle.wt_bijection.specs.Renaming.{renaming_fault}
 use Rattle.wt_bijection.proofs.Lengths.{no_fault}
 use Rattle.wt_grid.specs.First.{or_else}
-use Rattle.wt_grid.proofs.First.{neither}
-use Rattle.wt_grid.proofs.Order.{both}
+use Rattle.wt_grid.proofs.First.{neither, none_under}
 use Rattle.wt_step.specs.declared.raw.RawLink.{RawLink}
 use Rattle.wt_step.specs.declared.raw.StepFault.{StepFault}
 use Rattle.wt_step.specs.Links.{link_fault, fine_of, coarse_of}
@@ -33,9 +34,9 @@ tile_decides a b = (there, back)
   where
     there : same_tile a b ≡ true → a ≡ b
     there e =
-        let x = both (nat_eq a.east b.east && nat_eq a.north b.north && nat_eq a.west b.west) (nat_eq a.south b.south) e in
-        let y = both (nat_eq a.east b.east && nat_eq a.north b.north) (nat_eq a.west b.west) x.0 in
-        let z = both (nat_eq a.east b.east) (nat_eq a.north b.north) y.0 in
+        let x = and_parts (nat_eq a.east b.east && nat_eq a.north b.north && nat_eq a.west b.west) (nat_eq a.south b.south) e in
+        let y = and_parts (nat_eq a.east b.east && nat_eq a.north b.north) (nat_eq a.west b.west) x.0 in
+        let z = and_parts (nat_eq a.east b.east) (nat_eq a.north b.north) y.0 in
         tile_of a.east a.north a.west a.south b.east b.north b.west b.south
         (grind (arith, nat_tests, z.0)) (grind (arith, nat_tests, z.1)) (grind (arith, nat_tests, y.1)) (grind (arith, nat_tests, x.1))
 
@@ -51,8 +52,8 @@ list_of a d b c e f p q r = cc
 
 pub same_set_equal : (a b : TileList) → same_set a b ≡ true → a ≡ b
 same_set_equal a b e =
-    let x = both (pointwise same_tile a.tiles b.tiles && pointwise bytes_eq a.names1 b.names1) (pointwise bytes_eq a.names2 b.names2) e in
-    let y = both (pointwise same_tile a.tiles b.tiles) (pointwise bytes_eq a.names1 b.names1) x.0 in
+    let x = and_parts (pointwise same_tile a.tiles b.tiles && pointwise bytes_eq a.names1 b.names1) (pointwise bytes_eq a.names2 b.names2) e in
+    let y = and_parts (pointwise same_tile a.tiles b.tiles) (pointwise bytes_eq a.names1 b.names1) x.0 in
     list_of a.tiles b.tiles a.names1 a.names2 b.names1 b.names2
     ((slice_eq-Decides tile_decides a.tiles b.tiles _ refl).0 y.0)
     ((slice_eq-Decides bytes_eq-Decides a.names1 b.names1 _ refl).0 y.1)
@@ -68,14 +69,6 @@ equal_same_set a b e = rw e (rw (tiles_same b.tiles, names_same b.names1, names_
     names_same ns = (slice_eq-Decides bytes_eq-Decides ns ns _ refl).1 refl
 
 -- Steps.
-
-holds : (b : Bool) (fault : Refusal) → unless b fault ≡ None → b ≡ true
-holds true fault e = refl
-holds false fault e = absurd cc
-
-none_under : {A B : Type 0} (f : A → B) (a : Option A) → option_map f a ≡ None → a ≡ None
-none_under f None e = refl
-none_under f (Some x) e = absurd cc
 
 linked_from : (k : ℕ) (set : TileList) (links : List RawLink) → steps_fault_from k (Some set) links ≡ None → AreLinked set links
 linked_from k set [] e = tt

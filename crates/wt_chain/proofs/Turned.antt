@@ -1,5 +1,6 @@
 -- The tables of a loop tell how large the images of its tiles are.
 use Rattle.std.proofs.Common.{arith, ◌≡◌, ◌<◌, ◌≤◌, ◌+◌, ◌*◌, ℕ, zero, suc, List, [], ◌∷◌, ◌++◌, length, map, get_or, take, drop, Bool, true, false, if◌then◌else◌, refl, sym, ◌∙◌, ap}
+use Rattle.wt_morphism.proofs.Evenness.{image_is_grid, image_lines_of}
 use Rattle.wt_grid.specs.Axes.{same_axis}
 use Rattle.wt_grid.specs.declared.image.Image.TheVariants.{One as Single, Two as Double}
 use Rattle.wt_grid.specs.declared.image.Image.{Image}
@@ -13,10 +14,10 @@ use Rattle.wt_grid.specs.Images.{piece_at, first_tile, last_tile, is_pair, first
 use Rattle.wt_grid.specs.Traces.{segment, cells_at, piece_tiles}
 use Rattle.wt_grid.specs.Widths.{Stage, next_row, last_row, width, total}
 use Rattle.wt_grid.proofs.Bridge.{length-listed, get_or-listed, cell_of}
-use Rattle.wt_grid.proofs.Grids.{long_lines, length_lines, lines_of, grid_of_lines}
+use Rattle.wt_grid.proofs.Grids.{long_lines, length_lines, lines_of, grid_of_lines, listed_same}
 use Rattle.wt_grid.proofs.Rectangles.{wide_along}
 use Rattle.wt_grid.proofs.ImageGrids.{long_images, image_count}
-use Rattle.wt_grid.proofs.Traces.{segment_lines, listed_map, listed_same}
+use Rattle.wt_grid.proofs.Traces.{segment_lines, listed_map}
 use Rattle.wt_grid.proofs.Widths.{length_last}
 use Rattle.wt_step.specs.declared.raw.RawLink.{RawLink}
 use Rattle.wt_step.specs.declared.raw.RawLink.TheVariants.{Marker, Restrict}
@@ -95,21 +96,7 @@ across_two g le = sym (first_line g.width g.height (λ i j. at One g i j) le)
 
 -- The image of a rectangle, along the axis of its pieces and across.
 
-image_is_grid : (axis : Axis) (im : List Image) (q : Grid) → IsGrid q → IsGrid (image_grid axis im q)
-image_is_grid axis im q g =
-    let c = image_count im (lines axis q) in
-    let n = length_lines axis q in
-    let w = wide_along axis q g in
-    grid_of_lines axis (across axis q) (image_lines im (lines axis q)) (wide_across axis q g) (omega arith)
-  where
-    wide_across : (b : Axis) (p : Grid) → IsGrid p → 1 ≤ across b p
-    wide_across One p h = h.high
-    wide_across Two p h = h.wide
-
-image_lines_are : (axis : Axis) (im : List Image) (q : Grid) → lines axis (image_grid axis im q) ≡ image_lines im (lines axis q)
-image_lines_are axis im q = lines_of axis (across axis q) (image_lines im (lines axis q)) (long_images im (across axis q) (lines axis q) (long_lines axis q))
-
-across_same : (axis : Axis) (m : ℕ) (ls : List (List ℕ)) → across axis (of_lines axis m ls) ≡ m
+pub across_same : (axis : Axis) (m : ℕ) (ls : List (List ℕ)) → across axis (of_lines axis m ls) ≡ m
 across_same One m ls = refl
 across_same Two m ls = refl
 
@@ -117,7 +104,7 @@ row_along : (axis : Axis) (im : List Image) (q : Grid) → 1 ≤ across axis q
     → row axis (image_grid axis im q) ≡ flat_map (λ t. piece_tiles (piece_at im t)) (row axis q)
 row_along axis im q le =
     row_cells axis (image_grid axis im q) (rw (across_same axis (across axis q) (image_lines im (lines axis q))) le)
-    ∙ (ap (cells_at 0) (image_lines_are axis im q)
+    ∙ (ap (cells_at 0) (image_lines_of axis im q)
     ∙ (first_cells im (across axis q) (lines axis q) le (long_lines axis q)
     ∙ ap (flat_map (λ t. piece_tiles (piece_at im t))) (sym (row_cells axis q le))))
 
@@ -130,7 +117,7 @@ front_line : (axis : Axis) (im : List Image) (q : Grid) → IsGrid q
 front_line axis im q g =
     let n = length_lines axis q in
     let w = wide_along axis q g in
-    ap (λ ls. get_or ls 0 []) (image_lines_are axis im q) ∙ front im (lines axis q) (omega arith)
+    ap (λ ls. get_or ls 0 []) (image_lines_of axis im q) ∙ front im (lines axis q) (omega arith)
 
 across_first : (im : List Image) (q : Grid) → IsGrid q → row Two (image_grid One im q) ≡ firsts im (row Two q)
 across_first im q g =

@@ -179,11 +179,6 @@ shorter_drop zero xs = omega arith
 shorter_drop (suc d) [] = omega arith
 shorter_drop (suc d) (x ∷ xs) = let r = shorter_drop d xs in omega arith
 
-pub length_take : {A : Type 0} (d : ℕ) (xs : List A) → d ≤ length xs → length (take d xs) ≡ d
-length_take zero xs lt = refl
-length_take (suc d) [] lt = absurd (omega arith)
-length_take (suc d) (x ∷ xs) lt = ap suc (length_take d xs (omega arith))
-
 module _ (t : Table) (good : IsGood t) (a b : ℕ) where
   -- each line fits across and is long enough
   abbrev pub AllFit : List (List ℕ) → Type 0

@@ -4,7 +4,7 @@ use Rattle.wt_grid.specs.Axes.{other}
 use Rattle.wt_grid.specs.declared.image.Image.{Image}
 use Rattle.wt_grid.specs.declared.axis.Side.{Side}
 use Rattle.wt_grid.specs.declared.axis.Axis.{Axis}
-use Rattle.std.proofs.lemmas.List.{get_or-drop, length-drop}
+use Rattle.std.proofs.lemmas.List.{get_or-drop, length-drop, length-take-le}
 use Rattle.wt_grid.specs.Lines.{IsGood, IsImage, AllLong}
 use Rattle.wt_grid.specs.Cuts.{cut, step_table}
 use Rattle.wt_grid.specs.Grid.{Grid, IsGrid, along, across, at, lines}
@@ -12,7 +12,7 @@ use Rattle.wt_grid.specs.Parts.{core, IsValid}
 use Rattle.wt_grid.specs.Shifts.{Same, Meets, Repeats, IsRepeated}
 use Rattle.wt_grid.specs.Images.{image_lines}
 use Rattle.wt_grid.proofs.Parts.{at_core, along_core, across_core}
-use Rattle.wt_grid.proofs.Grids.{field_lines, long_lines, length_lines}
+use Rattle.wt_grid.proofs.Grids.{field_lines, long_lines, length_lines, long_get}
 use Rattle.wt_grid.proofs.Rectangles.{line_cell}
 use Rattle.wt_grid.proofs.ImageGrids.{image_count}
 use Rattle.wt_grid.proofs.CarriedSides.{shift_to, shift_from, carry}
@@ -45,11 +45,6 @@ meets_from a b u v h = same_from (drop a u) (drop b v) (λ j lx ly.
     let cb : b + j ≡ j + b = omega arith in
     get_or-drop a u j 0 ∙ (ap (λ (k : ℕ). get_or u k 0) ca ∙ (h j (omega arith) (omega arith) ∙ (ap (λ (k : ℕ). get_or v k 0) (sym cb) ∙ sym (get_or-drop b v j 0)))))
 
-line_long : (m : ℕ) (ls : List (List ℕ)) (i : ℕ) → AllLong m ls → i < length ls → length (get_or ls i []) ≡ m
-line_long m [] i h lt = absurd (omega arith)
-line_long m (u ∷ ls) zero h lt = h.0
-line_long m (u ∷ ls) (suc i) h lt = line_long m ls i h.1 (omega arith)
-
 -- A rectangle repeats itself where its lines do.
 
 pub repeated_lines : (axis : Axis) (d a b : ℕ) (g : Grid) → IsRepeated axis d a b g → Repeats a b d (lines axis g)
@@ -61,8 +56,8 @@ repeated_lines axis d a b g h = shift_from (Meets a b) (lines axis g) (drop d (l
     let there : get_or (drop d (lines axis g)) i [] ≡ get_or (lines axis g) (i + d) [] = get_or-drop d (lines axis g) i [] ∙ ap (λ (k : ℕ). get_or (lines axis g) k []) di in
     subst (λ (v : List ℕ). Meets a b (get_or (lines axis g) i []) v) (sym there)
     (meets_from a b (get_or (lines axis g) i []) (get_or (lines axis g) (i + d) []) (λ j lu lv.
-    let mu = line_long (across axis g) (lines axis g) i long lx in
-    let mv = line_long (across axis g) (lines axis g) (i + d) long (omega arith) in
+    let mu = long_get (across axis g) (lines axis g) i long lx in
+    let mv = long_get (across axis g) (lines axis g) (i + d) long (omega arith) in
     line_cell axis g i (j + a) (omega arith) (omega arith) ∙ (h i j (omega arith) (omega arith) (omega arith) ∙ sym (line_cell axis g (i + d) (j + b) (omega arith) (omega arith))))))
 
 pub lines_repeated : (axis : Axis) (d a b : ℕ) (g : Grid) → Repeats a b d (lines axis g) → IsRepeated axis d a b g
@@ -73,8 +68,8 @@ lines_repeated axis d a b g h i j li la lb =
     let di : d + i ≡ i + d = omega arith in
     let there : get_or (drop d (lines axis g)) i [] ≡ get_or (lines axis g) (i + d) [] = get_or-drop d (lines axis g) i [] ∙ ap (λ (k : ℕ). get_or (lines axis g) k []) di in
     let m : Meets a b (get_or (lines axis g) i []) (get_or (lines axis g) (i + d) []) = subst (λ (v : List ℕ). Meets a b (get_or (lines axis g) i []) v) there (shift_to (Meets a b) (lines axis g) (drop d (lines axis g)) i h (omega arith) (omega arith)) in
-    let mu = line_long (across axis g) (lines axis g) i long (omega arith) in
-    let mv = line_long (across axis g) (lines axis g) (i + d) long (omega arith) in
+    let mu = long_get (across axis g) (lines axis g) i long (omega arith) in
+    let mv = long_get (across axis g) (lines axis g) (i + d) long (omega arith) in
     sym (line_cell axis g i (j + a) (omega arith) la)
     ∙ (meets_to a b (get_or (lines axis g) i []) (get_or (lines axis g) (i + d) []) j m (omega arith) (omega arith) ∙ line_cell axis g (i + d) (j + b) li lb)
 
@@ -101,14 +96,9 @@ pub record IsCarried (axis : Axis) (im : List Image) (d a b : ℕ) (q : Grid) (n
   pub shorter : n ≤ d
   pub doubled : d ≤ n + n
 
-first_long : (m : ℕ) (ls : List (List ℕ)) → 1 ≤ length ls → AllLong m ls → length (get_or ls 0 []) ≡ m
+pub first_long : (m : ℕ) (ls : List (List ℕ)) → 1 ≤ length ls → AllLong m ls → length (get_or ls 0 []) ≡ m
 first_long m [] le h = absurd (omega arith)
 first_long m (u ∷ ls) le h = h.0
-
-length_take : {A : Type 0} (d : ℕ) (xs : List A) → d ≤ length xs → length (take d xs) ≡ d
-length_take zero xs lt = refl
-length_take (suc d) [] lt = absurd (omega arith)
-length_take (suc d) (x ∷ xs) lt = ap suc (length_take d xs (omega arith))
 
 module _ (axis : Axis) (side : Side) (allows : Axis → ℕ → ℕ → Bool) (marker : ℕ → Bool) (im : List Image)
     (good : IsGood (step_table side (allows axis) (allows (other axis)) marker im)) where
@@ -125,7 +115,7 @@ module _ (axis : Axis) (side : Side) (allows : Axis → ℕ → ℕ → Bool) (m
       let few : k ≤ along axis q = (let f = r.1.0 in omega arith) in
       let f0 = r.1.2 0 (omega arith) in
       let count = image_count im (take k (lines axis q)) in
-      let lk = length_take k (lines axis q) (omega arith) in (
+      let lk = length-take-le k (lines axis q) (omega arith) in (
         k,
         record {
           few = few;

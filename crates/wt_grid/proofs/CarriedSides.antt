@@ -1,10 +1,11 @@
 -- Blocks that repeat themselves: for both sides, and wherever a run of them begins.
 use Rattle.std.proofs.Common.{arith, ◌≡◌, ◌⊎◌, ◌≤◌, ◌<◌, ◌+◌, ◌-◌, ℕ, zero, suc, List, [], ◌∷◌, ◌++◌, length, length-append, take, drop, get_or, Bool, true, false, cond, Some, slice_get, map, refl, sym, ap, ◌∙◌, subst, inl, inr}
+use Rattle.wt_grid.proofs.Cut.{field_rest}
 use Rattle.wt_grid.specs.declared.image.Image.TheVariants.{One as Single, Two as Double}
 use Rattle.wt_grid.specs.declared.image.Image.{Image}
 use Rattle.wt_grid.specs.declared.axis.Side.TheVariants.{After, Before}
 use Rattle.wt_grid.specs.declared.axis.Side.{Side}
-use Rattle.std.proofs.lemmas.List.{take-append-drop, get_or-drop, length-drop, get_or_append_left, get_or-append_right}
+use Rattle.std.proofs.lemmas.List.{take-append-drop, get_or-drop, length-drop, get_or_append_left, get_or-append_right, length-take-le}
 use Rattle.std.proofs.lemmas.Option.{get_or_from_slice_get}
 use Rattle.std.proofs.Math.Seq.{drop-append_seam, take-append_seam}
 use Rattle.wt_grid.specs.Lines.{IsGood, IsAcross, IsField, Singles, Pairs, IsImage, is_marker_line, AllLong, Shift}
@@ -13,8 +14,8 @@ use Rattle.wt_grid.specs.Shifts.{Same, Meets, Repeats, fill}
 use Rattle.wt_grid.specs.Images.{piece_at, first_tile, last_tile, is_pair, firsts, lasts, is_double, line_image, image_lines, IsEvenLine, IsEven}
 use Rattle.wt_grid.proofs.Grids.{long_coarse, filled_long}
 use Rattle.wt_grid.proofs.Backwards.{backwards_append, backwards_twice, length-backwards, field_backwards, image_backwards}
-use Rattle.wt_grid.proofs.Law.{flipped, cut_long}
-use Rattle.wt_grid.proofs.Carried.{EachLine, each_drop, shift_tail, shift_with, length_take, length_front, carry_cut}
+use Rattle.wt_grid.proofs.Law.{flipped, cut_long, long_backwards, long_front}
+use Rattle.wt_grid.proofs.Carried.{EachLine, each_drop, shift_tail, shift_with, length_front, carry_cut}
 
 -- ---- the image of coarse lines is the computed one
 
@@ -212,14 +213,6 @@ repeats_backwards : (a b d : ℕ) (xs : List (List ℕ)) → Repeats a b d xs �
 repeats_backwards a b d xs s =
     shift_map (λ u v. Meets a b v u) (Meets b a) (backwards xs) (drop d (backwards xs)) (λ u v m. same_back (drop a v) (drop b u) m) (shift_backwards (Meets a b) xs d s)
 
-long_more : (m : ℕ) (xs : List (List ℕ)) (u : List ℕ) → AllLong m xs → length u ≡ m → AllLong m (xs ++ u ∷ [])
-long_more m [] u h e = (e, tt)
-long_more m (x ∷ xs) u h e = (h.0, long_more m xs u h.1 e)
-
-long_backwards : (m : ℕ) (xs : List (List ℕ)) → AllLong m xs → AllLong m (backwards xs)
-long_backwards m [] h = tt
-long_backwards m (x ∷ xs) h = long_more m (backwards xs) x (long_backwards m xs h.1) h.0
-
 fill_append : (f : List ℕ → ℕ) (xs ys : List (List ℕ)) → fill f (xs ++ ys) ≡ fill f xs + fill f ys
 fill_append f [] ys = omega arith
 fill_append f (x ∷ xs) ys = let r = fill_append f xs ys in omega arith
@@ -254,27 +247,15 @@ line_across : (f g : ℕ → ℕ → Bool) (u : List ℕ) (ls : List (List ℕ))
 line_across f g u [] h = h
 line_across f g u (v ∷ ls) h = h.0
 
-lines_after : (f g : ℕ → ℕ → Bool) (u : List ℕ) (ls : List (List ℕ)) → IsField f g (u ∷ ls) → IsField f g ls
-lines_after f g u [] h = tt
-lines_after f g u (v ∷ ls) h = h.2
-
 abbrev FitsLong : (ℕ → ℕ → Bool) → ℕ → ℕ → List ℕ → Type 0
 FitsLong g a b u = (a < length u) × (b < length u) × IsAcross g u
 
 all_fit : (f g : ℕ → ℕ → Bool) (a b m : ℕ) (ls : List (List ℕ)) → a < m → b < m → AllLong m ls → IsField f g ls → EachLine (FitsLong g a b) ls
 all_fit f g a b m [] la lb l h = tt
 all_fit f g a b m (u ∷ ls) la lb l h =
-    (((let e : length u ≡ m = l.0 in omega arith), (let e : length u ≡ m = l.0 in omega arith), line_across f g u ls h), all_fit f g a b m ls la lb l.1 (lines_after f g u ls h))
+    (((let e : length u ≡ m = l.0 in omega arith), (let e : length u ≡ m = l.0 in omega arith), line_across f g u ls h), all_fit f g a b m ls la lb l.1 (field_rest f g u ls h))
 
-long_front : (m : ℕ) (marker : ℕ → Bool) (ls : List (List ℕ)) → AllLong m ls → AllLong m (cut_front marker ls)
-long_front m marker [] h = tt
-long_front m marker (u ∷ ls) h = go (is_marker_line marker u) refl
-  where
-    go : (b : Bool) → is_marker_line marker u ≡ b → AllLong m (cut_front marker (u ∷ ls))
-    go true e = rw e h.1
-    go false e = rw e h
-
-long_take : (m d : ℕ) (ls : List (List ℕ)) → AllLong m ls → AllLong m (take d ls)
+pub long_take : (m d : ℕ) (ls : List (List ℕ)) → AllLong m ls → AllLong m (take d ls)
 long_take m zero ls h = tt
 long_take m (suc d) [] h = tt
 long_take m (suc d) (u ∷ ls) h = (h.0, long_take m d ls h.1)
@@ -298,7 +279,7 @@ carry_after al ac marker im good a b m d ls qs la lb l f le s i =
     let back : drop n qs ≡ r.1 = ap (drop n) r.2 ∙ drop-append_seam r.0 r.1 in
     let front : take n qs ≡ r.0 = ap (take n) r.2 ∙ take-append_seam r.0 r.1 in
     let rep : Repeats a b n qs = subst (λ (ys : List (List ℕ)). Shift (Meets a b) qs ys) (sym back) r.4 in
-    let total : length (image_lines im r.0) ≡ d = sym (ap length found.0) ∙ length_take d (cut_front marker ls) (omega arith) in
+    let total : length (image_lines im r.0) ≡ d = sym (ap length found.0) ∙ length-take-le d (cut_front marker ls) (omega arith) in
     let lengths : length qs ≡ length r.0 + length r.1 = ap length r.2 ∙ length-append r.0 r.1 in
     let large = sizes_repeat im a b m n qs la lb even lq rep in
     (n, (omega arith, rep, λ k lk. fill_image im (take n (drop k qs)) ∙ (windows (size im) n k qs lk large ∙ (ap (fill (size im)) front ∙ (sym (fill_image im r.0) ∙ total)))))
@@ -333,7 +314,7 @@ carry_before al ac marker im good a b m d ls qs la lb l f le s i =
     let large = sizes_repeat im a b m n qs la lb even lq rep in
     let k : ℕ = length qs - n in
     let last : length (image_lines om (take n (drop k (backwards qs)))) ≡ d = r.1.2 k (omega arith) in
-    let short : length (backwards (take n qs)) ≡ n = length-backwards (take n qs) ∙ length_take n qs few in
+    let short : length (backwards (take n qs)) ≡ n = length-backwards (take n qs) ∙ length-take-le n qs few in
     let win : take n (drop k (backwards qs)) ≡ backwards (take n qs) = ap (take n) (split_backwards n qs few) ∙ take_rest n (backwards (take n qs)) (omega arith) in
     let total : fill (size im) (take n qs) ≡ d =
     sym (fill_backwards (size im) (take n qs)) ∙ (sym (fill_same (size om) (size im) (backwards (take n qs)) (size_flip im))

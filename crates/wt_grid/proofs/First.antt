@@ -1,5 +1,6 @@
 -- What the first answer of several says.
 use Rattle.std.proofs.Common.{arith, ◌≡◌, ◌⊎◌, ℕ, zero, suc, ◌+◌, ◌-◌, ◌≤◌, ◌<◌, Option, None, Some, is_some, if◌then◌else◌, refl, ap, inl, inr}
+use Rattle.std.specs.Option.{option_map}
 use Rattle.std.proofs.lemmas.Bool.{cases_lt}
 use Rattle.wt_grid.specs.First.{or_else, first_from, count_from}
 
@@ -42,3 +43,16 @@ module _ {A : Type 0} (f : ℕ → Option A) where
       at_first : (a : Option A) → f i ≡ a → (0 < count_from f (i + 1) n → (k : ℕ) × (k < i + 1 + n) × (a : A) × (f k ≡ Some a)) → (k : ℕ) × (k < i + suc n) × (a : A) × (f k ≡ Some a)
       at_first None h r = let q = r (let g = rw h at lt in omega arith) in (q.0, omega arith, q.2, q.3)
       at_first (Some a) h r = (i, omega arith, a, h)
+
+-- where no number has one, there is none
+pub all_none : {A : Type 0} (f : ℕ → Option A) (i n : ℕ) → ((k : ℕ) → i ≤ k → k < i + n → f k ≡ None) → first_from f i n ≡ None
+all_none f i zero h = refl
+all_none f i (suc n) h =
+    let here : f i ≡ None = h i (omega arith) (omega arith) in
+    let rest : first_from f (i + 1) n ≡ None = all_none f (i + 1) n (λ k le lt. h k (omega arith) (omega arith)) in
+    rw (here, rest) refl
+
+-- what is mapped to no answer was none
+pub none_under : {A B : Type 0} (f : A → B) (a : Option A) → option_map f a ≡ None → a ≡ None
+none_under f None e = refl
+none_under f (Some x) e = absurd cc

@@ -62,7 +62,7 @@ filled_long m [] le h = tt
 filled_long m ([] ∷ ls) le h = absurd (let e : 0 ≡ m = h.0 in omega arith)
 filled_long m ((a ∷ as') ∷ ls) le h = filled_long m ls le h.1
 
-listed_same : {A : Type 0} (n : ℕ) (f g : ℕ → A) → ((i : ℕ) → i < n → f i ≡ g i) → listed n f ≡ listed n g
+pub listed_same : {A : Type 0} (n : ℕ) (f g : ℕ → A) → ((i : ℕ) → i < n → f i ≡ g i) → listed n f ≡ listed n g
 listed_same zero f g h = refl
 listed_same (suc n) f g h =
     let e = h 0 (omega arith) in
@@ -73,7 +73,7 @@ listed_all : {A : Type 0} (xs : List A) (d : A) → listed (length xs) (λ i. ge
 listed_all [] d = refl
 listed_all (x ∷ xs) d = ap (λ (ys : List _). x ∷ ys) (listed_all xs d)
 
-long_get : (m : ℕ) (ls : List (List ℕ)) (i : ℕ) → AllLong m ls → i < length ls → length (get_or ls i []) ≡ m
+pub long_get : (m : ℕ) (ls : List (List ℕ)) (i : ℕ) → AllLong m ls → i < length ls → length (get_or ls i []) ≡ m
 long_get m [] i h lt = absurd (omega arith)
 long_get m (u ∷ ls) zero h lt = h.0
 long_get m (u ∷ ls) (suc i) h lt = long_get m ls i h.1 (omega arith)

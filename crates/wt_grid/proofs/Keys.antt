@@ -1,8 +1,9 @@
 -- Lists in order by several numbers are split at each key.
 use Rattle.std.proofs.Common.{arith, ◌≡◌, ◌⊎◌, ◌<◌, ℕ, List, Bool, true, false, ◌&&◌, ◌||◌, nat_eq, nat_lt, refl, inl, inr}
+use Rattle.std.proofs.lemmas.Bool.{and_parts}
 use Rattle.std.proofs.lemmas.Bool.Decides.{nat_tests}
 use Rattle.wt_grid.specs.Order.{in_order, IsSplit}
-use Rattle.wt_grid.proofs.Order.{split, both}
+use Rattle.wt_grid.proofs.Order.{split}
 use Rattle.wt_grid.specs.Pairs.{pair_before, is_this_pair, pairs_follow, pair_fits}
 
 -- by a number, and where that is the same by p
@@ -41,7 +42,7 @@ by_both x y z p q r e f h = elim (by_cases x y p e) [
 
 pub by_hit : (x y z : ℕ) (p q r : Bool) → first_by x y p ≡ true → (nat_eq y z && q) ≡ true → (p ≡ true → q ≡ true → r ≡ true) → first_by x z r ≡ true
 by_hit x y z p q r e f h =
-    let g = both (nat_eq y z) q f in
+    let g = and_parts (nat_eq y z) q f in
     let k : y ≡ z = grind (arith, nat_tests, g.0) in
     elim (by_cases x y p e) [
       | inl lt ↦ by_less x z r (omega arith)

@@ -71,15 +71,15 @@ cut_length Before marker ls =
     let c = length-backwards (cut_lines marker (backwards ls)) in omega arith
 
 -- Lines of one length, cut.
-long_more : (m : ℕ) (ls : List (List ℕ)) (u : List ℕ) → AllLong m ls → length u ≡ m → AllLong m (ls ++ u ∷ [])
+pub long_more : (m : ℕ) (ls : List (List ℕ)) (u : List ℕ) → AllLong m ls → length u ≡ m → AllLong m (ls ++ u ∷ [])
 long_more m [] u h e = (e, tt)
 long_more m (v ∷ ls) u h e = (h.0, long_more m ls u h.1 e)
 
-long_backwards : (m : ℕ) (ls : List (List ℕ)) → AllLong m ls → AllLong m (backwards ls)
+pub long_backwards : (m : ℕ) (ls : List (List ℕ)) → AllLong m ls → AllLong m (backwards ls)
 long_backwards m [] h = tt
 long_backwards m (u ∷ ls) h = long_more m (backwards ls) u (long_backwards m ls h.1) h.0
 
-long_front : (m : ℕ) (marker : ℕ → Bool) (ls : List (List ℕ)) → AllLong m ls → AllLong m (cut_front marker ls)
+pub long_front : (m : ℕ) (marker : ℕ → Bool) (ls : List (List ℕ)) → AllLong m ls → AllLong m (cut_front marker ls)
 long_front m marker [] h = tt
 long_front m marker (u ∷ ls) h = at_first (is_marker_line marker u) refl
   where

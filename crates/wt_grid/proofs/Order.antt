@@ -1,12 +1,9 @@
 -- Look-ups in lists in strict order.
 use Rattle.std.proofs.Common.{arith, ◌≡◌, ◌≤◌, ◌-◌, List, [], ◌∷◌, ◌++◌, length, take, drop, get_or, Bool, true, false, Some, None, ◌&&◌, refl, sym, ◌∙◌, ap, subst, inl, inr, is_some}
+use Rattle.std.proofs.lemmas.Bool.{and_parts}
 use Rattle.std.specs.List.{list_any, find}
 use Rattle.std.proofs.lemmas.List.{take_all}
-use Rattle.wt_grid.specs.Order.{leads, in_order, AllAbove, IsSplit}
-
-pub both : (a b : Bool) → (a && b) ≡ true → (a ≡ true) × (b ≡ true)
-both true b e = (refl, e)
-both false b e = absurd cc
+use Rattle.wt_grid.specs.Order.{leads, in_order, AllAbove, IsSplit, agree}
 
 pub has_found : {A : Type 0} (p : A → Bool) (xs : List A) → list_any p xs ≡ is_some (find p xs)
 has_found p [] = refl
@@ -68,10 +65,10 @@ module _ {A : Type 0} (low hit : A → Bool) where
       (up_to : (x y : A) → before x y ≡ true → hit y ≡ true → low x ≡ true)
       (apart : (x : A) → low x ≡ true → hit x ≡ false) where
     rest : (x : A) (xs : List A) → in_order fits before (x ∷ xs) ≡ true → in_order fits before xs ≡ true
-    rest x xs e = (both (fits x && leads before x xs) (in_order fits before xs) e).1
+    rest x xs e = (and_parts (fits x && leads before x xs) (in_order fits before xs) e).1
 
     next : (x y : A) (xs : List A) → in_order fits before (x ∷ y ∷ xs) ≡ true → before x y ≡ true
-    next x y xs e = (both (fits x) (before x y) (both (fits x && before x y) (in_order fits before (y ∷ xs)) e).0).1
+    next x y xs e = (and_parts (fits x) (before x y) (and_parts (fits x && before x y) (in_order fits before (y ∷ xs)) e).0).1
 
     no_more : (x y : A) (b : Bool) → low y ≡ b → before x y ≡ true → low x ≡ false → low y ≡ false
     no_more x y false h g e = h
@@ -126,3 +123,15 @@ module _ {A : Type 0} (low hit : A → Bool) where
   here xs front (x ∷ as') d e some s h =
       let r = finds low hit front x as' (let P : List A → Type 0 = λ ys. IsSplit low hit ys in subst P (sym e) s) h in
       ap (find hit) (sym e) ∙ r
+
+-- Truth values that agree are equal, and equal ones agree.
+
+pub agreed : (a b : Bool) → agree a b ≡ true → a ≡ b
+agreed true b e = sym e
+agreed false true e = absurd (cc e)
+agreed false false e = refl
+
+pub agrees : (a b : Bool) → a ≡ b → agree a b ≡ true
+agrees true b e = sym e
+agrees false true e = absurd (cc e)
+agrees false false e = refl

@@ -49,6 +49,10 @@ pub wide_along : (axis : Axis) (g : Grid) → IsGrid g → 1 ≤ along axis g
 wide_along One g i = i.wide
 wide_along Two g i = i.high
 
+pub wide_across : (axis : Axis) (g : Grid) → IsGrid g → 1 ≤ across axis g
+wide_across One g i = i.high
+wide_across Two g i = i.wide
+
 pub same_lines : (axis : Axis) (g h : Grid) → IsGrid g → IsGrid h → lines axis g ≡ lines axis h → g ≡ h
 same_lines axis g h ig ih e =
     let n : along axis g ≡ along axis h = sym (length_lines axis g) ∙ (ap length e ∙ length_lines axis h) in

@@ -12,7 +12,7 @@ use Rattle.wt_grid.specs.Cuts.{backwards, cut_front, cut_lines, cut, flip, step_
 use Rattle.wt_grid.proofs.Backwards.{backwards_twice, backwards_append, filled_backwards, image_backwards}
 use Rattle.wt_grid.proofs.Law.{flipped, unflipped}
 
-end_append : (marker : ℕ → Bool) (fs : List (List ℕ)) (u : List ℕ) (ls : List (List ℕ)) → cut_end marker (fs ++ u ∷ ls) ≡ fs ++ cut_end marker (u ∷ ls)
+pub end_append : (marker : ℕ → Bool) (fs : List (List ℕ)) (u : List ℕ) (ls : List (List ℕ)) → cut_end marker (fs ++ u ∷ ls) ≡ fs ++ cut_end marker (u ∷ ls)
 end_append marker [] u ls = refl
 end_append marker (x ∷ []) u ls = refl
 end_append marker (x ∷ y ∷ fs) u ls = ap (λ (xs : List (List ℕ)). x ∷ xs) (end_append marker (y ∷ fs) u ls)

@@ -1,12 +1,13 @@
 -- Images in which each coarse tile stands for one tile, cell by cell.
 use Rattle.std.proofs.Common.{arith, ◌≡◌, ◌<◌, ◌≤◌, ℕ, zero, suc, List, [], ◌∷◌, length, get_or, Some, slice_get, refl, sym, ◌∙◌, ap, subst, inl, inr}
+use Rattle.wt_grid.proofs.CarriedGrids.{first_long}
 use Rattle.wt_grid.specs.Axes.{other}
 use Rattle.wt_grid.specs.declared.image.Image.TheVariants.{One as Single, Two as Double}
 use Rattle.wt_grid.specs.declared.image.Image.{Image}
 use Rattle.wt_grid.specs.declared.axis.Axis.{Axis}
 use Rattle.wt_grid.specs.Lines.{Singles, Pairs, IsImage, AllLong}
 use Rattle.wt_grid.specs.Grid.{Grid, IsGrid, along, across, at, listed, lines}
-use Rattle.wt_grid.proofs.Grids.{long_lines, length_lines, long_coarse}
+use Rattle.wt_grid.proofs.Grids.{long_lines, length_lines, long_coarse, long_get}
 use Rattle.wt_grid.proofs.Rectangles.{line_cell, wide_along}
 use Rattle.wt_grid.proofs.TraceSteps.{at_other, along_other, across_other}
 
@@ -65,18 +66,9 @@ lines_at im (q ∷ qs) [] i s lt = absurd s
 lines_at im (q ∷ qs) (u ∷ ls) zero s lt = s.0
 lines_at im (q ∷ qs) (u ∷ ls) (suc i) s lt = lines_at im qs ls i s.1 (omega arith)
 
-line_long : (m : ℕ) (ls : List (List ℕ)) (i : ℕ) → AllLong m ls → i < length ls → length (get_or ls i []) ≡ m
-line_long m [] i h lt = absurd (omega arith)
-line_long m (u ∷ ls) zero h lt = h.0
-line_long m (u ∷ ls) (suc i) h lt = line_long m ls i h.1 (omega arith)
-
 -- each coarse cell stands for the cell at its place
 abbrev pub StandsFor : List Image → Axis → Grid → Grid → Type 0
 StandsFor im axis q c = (along axis q ≡ along axis c) × (across axis q ≡ across axis c) × ((i j : ℕ) → i < along axis c → j < across axis c → slice_get im (at axis q i j) ≡ Some (Single (at axis c i j)))
-
-first_long : (m : ℕ) (ls : List (List ℕ)) → 1 ≤ length ls → AllLong m ls → length (get_or ls 0 []) ≡ m
-first_long m [] le h = absurd (omega arith)
-first_long m (u ∷ ls) le h = h.0
 
 pub cells_stand : (im : List Image) (axis : Axis) (q c : Grid) → NoPairs im → IsGrid q → 1 ≤ across axis c → IsImage im (lines axis q) (lines axis c) → StandsFor im axis q c
 cells_stand im axis q c n iq le i =
@@ -92,7 +84,7 @@ cells_stand im axis q c n iq le i =
       b,
       λ x y lx ly.
           let r = lines_at im (lines axis q) (lines axis c) x s (omega arith) in
-          let m = line_long (across axis c) (lines axis c) x long (omega arith) in
+          let m = long_get (across axis c) (lines axis c) x long (omega arith) in
           let k = single_at im (get_or (lines axis q) x []) (get_or (lines axis c) x []) y r (omega arith) in
           ap (slice_get im) (sym (line_cell axis q x y (omega arith) (omega arith))) ∙ (k ∙ ap (λ (z : ℕ). Some (Single z)) (line_cell axis c x y lx ly)),
     )

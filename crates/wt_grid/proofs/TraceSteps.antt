@@ -14,11 +14,11 @@ use Rattle.wt_grid.specs.Widths.{Stage, next_row, last_row}
 use Rattle.wt_grid.specs.Images.{piece_at, first_tile, firsts, is_double, line_image, image_lines, IsEven}
 use Rattle.wt_grid.specs.Traces.{segment, cells_at, piece_tiles, IsStageOf, IsTraced}
 use Rattle.wt_grid.proofs.Parts.{at_core, along_core, across_core}
-use Rattle.wt_grid.proofs.Grids.{long_lines, length_lines, long_coarse}
+use Rattle.wt_grid.proofs.Grids.{long_lines, length_lines, long_coarse, listed_same}
 use Rattle.wt_grid.proofs.Rectangles.{line_cell, wide_along}
 use Rattle.wt_grid.proofs.ImageGrids.{image_count}
-use Rattle.wt_grid.proofs.CarriedSides.{image_found}
-use Rattle.wt_grid.proofs.Traces.{listed_map, listed_same, segment_lines, image_cells, run_image, run_fits, StandsIn}
+use Rattle.wt_grid.proofs.CarriedSides.{image_found, long_take}
+use Rattle.wt_grid.proofs.Traces.{listed_map, segment_lines, image_cells, run_image, run_fits, StandsIn}
 
 -- the other axis reads a rectangle the other way
 
@@ -52,11 +52,6 @@ long_drop : (m k : ℕ) (ls : List (List ℕ)) → AllLong m ls → AllLong m (d
 long_drop m zero ls h = h
 long_drop m (suc k) [] h = tt
 long_drop m (suc k) (u ∷ ls) h = long_drop m k ls h.1
-
-long_take : (m k : ℕ) (ls : List (List ℕ)) → AllLong m ls → AllLong m (take k ls)
-long_take m zero ls h = tt
-long_take m (suc k) [] h = tt
-long_take m (suc k) (u ∷ ls) h = (h.0, long_take m k ls h.1)
 
 even_drop : (im : List Image) (k : ℕ) (qs : List (List ℕ)) → IsEven im qs → IsEven im (drop k qs)
 even_drop im zero qs h = h

@@ -1,5 +1,6 @@
 -- A run of coarse cells stands for a run of cells of the rectangle below.
 use Rattle.std.proofs.Common.{arith, ◌≡◌, ◌≤◌, ◌<◌, ◌+◌, ◌-◌, ℕ, zero, suc, List, [], ◌∷◌, ◌++◌, append_assoc, length, length-append, map, take, drop, get_or, Bool, true, false, refl, sym, ap, ◌∙◌}
+use Rattle.wt_grid.proofs.Grids.{listed_same}
 use Rattle.wt_grid.specs.declared.image.Image.TheVariants.{One as Single, Two as Double}
 use Rattle.wt_grid.specs.declared.image.Image.{Image}
 use Rattle.wt_grid.specs.declared.axis.Side.TheVariants.{After, Before}
@@ -22,14 +23,7 @@ pub listed_map : {A B : Type 0} (h : A → B) (n : ℕ) (f : ℕ → A) → map 
 listed_map h zero f = refl
 listed_map h (suc n) f = ap (λ (ys : List _). h (f 0) ∷ ys) (listed_map h n (λ k. f (suc k)))
 
-pub listed_same : {A : Type 0} (n : ℕ) (f g : ℕ → A) → ((i : ℕ) → i < n → f i ≡ g i) → listed n f ≡ listed n g
-listed_same zero f g h = refl
-listed_same (suc n) f g h =
-    let e = h 0 (omega arith) in
-    let r = listed_same n (λ k. f (suc k)) (λ k. g (suc k)) (λ i lt. h (suc i) (omega arith)) in
-    cc
-
-take_listed : {A : Type 0} (n m : ℕ) (f : ℕ → A) → n ≤ m → take n (listed m f) ≡ listed n f
+pub take_listed : {A : Type 0} (n m : ℕ) (f : ℕ → A) → n ≤ m → take n (listed m f) ≡ listed n f
 take_listed zero m f le = refl
 take_listed (suc n) zero f le = absurd (omega arith)
 take_listed (suc n) (suc m) f le = ap (λ (ys : List _). f 0 ∷ ys) (take_listed n m (λ k. f (suc k)) (omega arith))

@@ -1,5 +1,6 @@
 -- The cells of an image are those that its lines are laid with.
 use Rattle.std.proofs.Common.{arith, ◌≡◌, ℕ, zero, suc, ◌+◌, ◌-◌, ◌*◌, ◌/◌, ◌%◌, ◌<◌, ◌≤◌, Bool, true, false, cond, List, [], ◌∷◌, ◌++◌, length, take, drop, map, get_or, refl, ap, sym, ◌∙◌, subst}
+use Rattle.wt_grid.proofs.Grids.{listed_same}
 use Rattle.wt_grid.specs.declared.image.Image.TheVariants.{One as Single, Two as Double}
 use Rattle.wt_grid.specs.declared.image.Image.{Image}
 use Rattle.wt_grid.specs.declared.axis.Axis.TheVariants.{One, Two}
@@ -130,13 +131,6 @@ listed_more zero f = refl
 listed_more (suc n) f =
     let e : suc n + 1 ≡ suc (n + 1) = omega arith in
     ap (λ (k : ℕ). listed k f) e ∙ ap (λ (xs : List _). f 0 ∷ xs) (listed_more n (λ k. f (suc k)))
-
-listed_same : {A : Type 0} (n : ℕ) (f g : ℕ → A) → ((i : ℕ) → i < n → f i ≡ g i) → listed n f ≡ listed n g
-listed_same zero f g h = refl
-listed_same (suc n) f g h =
-    let e = h 0 (omega arith) in
-    let r = listed_same n (λ k. f (suc k)) (λ k. g (suc k)) (λ i lt. h (suc i) (omega arith)) in
-    cc
 
 listed_add : {A : Type 0} (n m : ℕ) (f : ℕ → A) → listed (n + m) f ≡ listed n f ++ listed m (λ k. f (n + k))
 listed_add zero m f = let z : 0 + m ≡ m = omega arith in ap (λ (k : ℕ). listed k f) z ∙ listed_same m f (λ k. f (0 + k)) (λ i lt. let e : i ≡ 0 + i = omega arith in ap f e)

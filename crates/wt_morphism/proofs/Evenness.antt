@@ -1,5 +1,6 @@
 -- Even lines, and the images of rectangles whose lines are even.
 use Rattle.std.proofs.Common.{arith, ◌≡◌, ◌↔◌, ℕ, zero, suc, ◌+◌, ◌<◌, ◌≤◌, Bool, true, false, cond, not, List, [], ◌∷◌, length, map, Option, None, Some, refl, ap, sym, ◌∙◌, subst}
+use Rattle.wt_grid.proofs.Order.{agreed, agrees}
 use Rattle.wt_grid.specs.declared.image.Image.{Image}
 use Rattle.wt_grid.specs.declared.axis.Axis.TheVariants.{One, Two}
 use Rattle.wt_grid.specs.declared.axis.Axis.{Axis}
@@ -10,30 +11,16 @@ use Rattle.wt_grid.specs.Lines.{IsImage, AllLong}
 use Rattle.wt_grid.specs.Grid.{Grid, IsGrid, cell, along, across, at, listed, lines, of_lines}
 use Rattle.wt_grid.specs.Parts.{AllBelow}
 use Rattle.wt_grid.specs.Images.{piece_at, is_pair, is_double, image_lines, image_grid, IsEvenLine, IsEven}
-use Rattle.wt_grid.proofs.First.{none_from}
+use Rattle.wt_grid.proofs.First.{none_from, all_none}
 use Rattle.wt_grid.proofs.Bridge.{length-listed}
 use Rattle.wt_grid.proofs.Grids.{long_lines, lines_of, grid_of_lines, length_lines}
 use Rattle.wt_grid.proofs.Images.{even_image}
 use Rattle.wt_grid.proofs.ImageGrids.{lines_below, long_images, image_count}
 use Rattle.wt_grid.proofs.CarriedSides.{image_found}
-use Rattle.wt_grid.proofs.Rectangles.{same_lines}
+use Rattle.wt_grid.proofs.Rectangles.{same_lines, wide_across, wide_along}
 use Rattle.wt_morphism.specs.declared.image.Morphism.{Morphism}
 use Rattle.wt_morphism.specs.Images.{piece, pieces, image, is_two, line_start, uneven_at, uneven_in, uneven}
 use Rattle.wt_morphism.proofs.Cells.{piece_of}
-
-from_none : {A : Type 0} (f : ℕ → Option A) (i n : ℕ) → ((k : ℕ) → i ≤ k → k < i + n → f k ≡ None) → first_from f i n ≡ None
-from_none f i zero h = refl
-from_none f i (suc n) h = rw (h i (omega arith) (omega arith)) (from_none f (i + 1) n (λ k low high. h k (omega arith) (omega arith)))
-
-agrees : (a b : Bool) → agree a b ≡ true → a ≡ b
-agrees true true e = refl
-agrees true false e = absurd cc
-agrees false true e = absurd cc
-agrees false false e = refl
-
-agreed : (a b : Bool) → a ≡ b → agree a b ≡ true
-agreed true b e = rw (← e) refl
-agreed false b e = rw (← e) refl
 
 none_agree : (b : Bool) (x : ℕ × ℕ) → cond b None (Some x) ≡ None → b ≡ true
 none_agree true x e = refl
@@ -81,12 +68,12 @@ unfolding uneven
 cells_none m p e x y lx ly =
     let row = none_from (uneven_in m p) 0 p.height y e (omega arith) (omega arith) in
     let here = none_from (uneven_at m p y) 0 p.width x row (omega arith) (omega arith) in
-    agrees (is_two m (cell p x y)) (is_two m (line_start m.axis p x y)) (none_agree (agree (is_two m (cell p x y)) (is_two m (line_start m.axis p x y))) (x, y) here)
+    agreed (is_two m (cell p x y)) (is_two m (line_start m.axis p x y)) (none_agree (agree (is_two m (cell p x y)) (is_two m (line_start m.axis p x y))) (x, y) here)
 
 none_cells : (m : Morphism) (p : Grid) → ((x y : ℕ) → x < p.width → y < p.height → is_two m (cell p x y) ≡ is_two m (line_start m.axis p x y)) → uneven m p ≡ None
 unfolding uneven
-none_cells m p h = from_none (uneven_in m p) 0 p.height (λ y low high. from_none (uneven_at m p y) 0 p.width (λ x l r.
-    let e = agreed (is_two m (cell p x y)) (is_two m (line_start m.axis p x y)) (h x y (omega arith) (omega arith)) in rw e refl))
+none_cells m p h = all_none (uneven_in m p) 0 p.height (λ y low high. all_none (uneven_at m p y) 0 p.width (λ x l r.
+    let e = agrees (is_two m (cell p x y)) (is_two m (line_start m.axis p x y)) (h x y (omega arith) (omega arith)) in rw e refl))
 
 even_of : (axis : Axis) (table : List Image) (p : Grid) → IsGrid p → uneven (morphism axis table) p ≡ None → IsEven (map piece table) (lines axis p)
 even_of One table p g e = lines_even (map piece table) p.height g.high p.width (λ i j. cell p i j) (λ i j li lj.
@@ -105,23 +92,15 @@ uneven_even m p g = (λ e. even_of m.axis m.table p g e, λ h. of_even m.axis m.
 
 -- The image has the lines that the lines stand for.
 
-across_some : (axis : Axis) (p : Grid) → IsGrid p → 1 ≤ across axis p
-across_some One p g = g.high
-across_some Two p g = g.wide
-
-along_some : (axis : Axis) (p : Grid) → IsGrid p → 1 ≤ along axis p
-along_some One p g = g.wide
-along_some Two p g = g.high
-
-image_lines_of : (axis : Axis) (im : List Image) (q : Grid) → lines axis (image_grid axis im q) ≡ image_lines im (lines axis q)
+pub image_lines_of : (axis : Axis) (im : List Image) (q : Grid) → lines axis (image_grid axis im q) ≡ image_lines im (lines axis q)
 image_lines_of axis im q = lines_of axis (across axis q) (image_lines im (lines axis q)) (long_images im (across axis q) (lines axis q) (long_lines axis q))
 
-image_is_grid : (axis : Axis) (im : List Image) (q : Grid) → IsGrid q → IsGrid (image_grid axis im q)
+pub image_is_grid : (axis : Axis) (im : List Image) (q : Grid) → IsGrid q → IsGrid (image_grid axis im q)
 image_is_grid axis im q g =
     let n = (image_count im (lines axis q)).0 in
     let l = length_lines axis q in
-    let s = along_some axis q g in
-    grid_of_lines axis (across axis q) (image_lines im (lines axis q)) (across_some axis q g) (omega arith)
+    let s = wide_along axis q g in
+    grid_of_lines axis (across axis q) (image_lines im (lines axis q)) (wide_across axis q g) (omega arith)
 
 pub only_image : (m : Morphism) (q g : Grid) → IsGrid q → IsGrid g → AllBelow (length m.table) q
     → IsImage (pieces m) (lines m.axis q) (lines m.axis g) ↔ (uneven m q ≡ None) × (g ≡ image m q)
@@ -130,7 +109,7 @@ only_image m q g iq ig b =
     let im = pieces m in
     let both = uneven_even m q iq in (
       λ i.
-          let f = image_found im (across axis q) (lines axis q) (lines axis g) (across_some axis q iq) (long_lines axis q) i in
+          let f = image_found im (across axis q) (lines axis q) (lines axis g) (wide_across axis q iq) (long_lines axis q) i in
           (both.1 f.1, same_lines axis g (image m q) ig (image_is_grid axis im q iq) (f.0 ∙ sym (image_lines_of axis im q))),
       λ h.
           let n : length (pieces m) ≡ length m.table = length-map m.table piece in

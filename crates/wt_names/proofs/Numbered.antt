@@ -4,7 +4,7 @@ use Rattle.wt_tile.specs.Sets.{is_among, apart}
 use Rattle.std.specs.Str.{bytes_eq}
 use Rattle.std.proofs.lemmas.Slice.Eq.{bytes_eq-Decides}
 use Rattle.std.proofs.lemmas.List.{append-nil, take_all}
-use Rattle.std.proofs.lemmas.Bool.{eqb-true, eqb-false}
+use Rattle.std.proofs.lemmas.Bool.{eqb-true, eqb-false, and_parts, not-true}
 use Rattle.wt_names.specs.Numbering.{place, seen_after, numbered, all_seen, name_at, named, InOrder}
 
 same_name : (x y : List ℕ) → bytes_eq x y ≡ true → x ≡ y
@@ -58,15 +58,7 @@ names_again seen (x ∷ xs) =
 
 -- ---- the other way
 
-both_true : (a b : Bool) → (a && b) ≡ true → (a ≡ true) × (b ≡ true)
-both_true true b e = (refl, e)
-both_true false b e = absurd cc
-
-not_true : (a : Bool) → not a ≡ true → a ≡ false
-not_true true e = absurd cc
-not_true false e = refl
-
-self_equal : (x : List ℕ) → bytes_eq x x ≡ true
+pub self_equal : (x : List ℕ) → bytes_eq x x ≡ true
 self_equal x = (bytes_eq-Decides x x).1 refl
 
 among_name : (names : List (List ℕ)) (c : ℕ) → c < length names → is_among (name_at names c) names ≡ true
@@ -97,8 +89,8 @@ old_name [] n c a lt le = absurd (omega arith)
 old_name (x ∷ xs) zero c a lt le = absurd (omega arith)
 old_name (x ∷ xs) (suc n) zero a lt le = rw (self_equal x) (refl, refl)
 old_name (x ∷ xs) (suc n) (suc c) a lt le =
-    let p = both_true (not (is_among x xs)) (apart xs) a in
-    let d = differs x xs c (not_true (is_among x xs) p.0) (omega arith) in
+    let p = and_parts (not (is_among x xs)) (apart xs) a in
+    let d = differs x xs c (not-true (is_among x xs) p.0) (omega arith) in
     let r = old_name xs n c p.1 (omega arith) (omega arith) in
     rw d (r.0, ap suc r.1)
 
@@ -108,8 +100,8 @@ new_name : (names : List (List ℕ)) (n : ℕ) → apart names ≡ true → n < 
 new_name [] n a lt = absurd (omega arith)
 new_name (x ∷ xs) zero a lt = (refl, refl, refl)
 new_name (x ∷ xs) (suc n) a lt =
-    let p = both_true (not (is_among x xs)) (apart xs) a in
-    let d = differs x xs n (not_true (is_among x xs) p.0) (omega arith) in
+    let p = and_parts (not (is_among x xs)) (apart xs) a in
+    let d = differs x xs n (not-true (is_among x xs) p.0) (omega arith) in
     let r = new_name xs n p.1 (omega arith) in
     rw d (r.0, ap suc r.1, ap (λ (ys : List (List ℕ)). x ∷ ys) r.2)
 

@@ -1,5 +1,6 @@
 -- A row of names in a line, both ways.
 use Rattle.std.proofs.Common.{rules, arith, ◌≡◌, ℕ, Bool, true, false, cond, ◌&&◌, nat_eq, nat_lt, nat_le, List, [], ◌∷◌, ◌++◌, length, Option, Some, None, Result, Ok, Err, refl, sym, ap, ◌∙◌}
+use Rattle.std.proofs.lemmas.Bool.{and_parts}
 use Rattle.wt_tile.specs.Names.{is_name_byte, all_name_bytes}
 use Rattle.std.proofs.lemmas.Bool.Decides.{nat_tests}
 use Rattle.wt_text.specs.Readers.{LineFault, whole}
@@ -10,16 +11,12 @@ use Rattle.wt_names.specs.Rows.{is_name, name_word, name_spelling, row_form, row
 byte_clean : (b : ℕ) → is_name_byte b ≡ true → (nat_eq b 32 ≡ false) × (nat_eq b 10 ≡ false)
 byte_clean b e = (grind (arith, nat_tests), grind (arith, nat_tests))
 
-both_true : (a b : Bool) → (a && b) ≡ true → (a ≡ true) × (b ≡ true)
-both_true true b e = (refl, e)
-both_true false b e = absurd cc
-
 bytes_clean : (bs : List ℕ) → all_name_bytes bs ≡ true → IsClean bs
 bytes_clean [] e = tt
-bytes_clean (b ∷ bs) e = let p = both_true (is_name_byte b) (all_name_bytes bs) e in let c = byte_clean b p.0 in (c.0, c.1, bytes_clean bs p.1)
+bytes_clean (b ∷ bs) e = let p = and_parts (is_name_byte b) (all_name_bytes bs) e in let c = byte_clean b p.0 in (c.0, c.1, bytes_clean bs p.1)
 
 name_clean : (t : List ℕ) → is_name t ≡ true → IsClean t
-name_clean t e = bytes_clean t (both_true (nat_lt 0 (length t) && nat_le (length t) 16) (all_name_bytes t) e).1
+name_clean t e = bytes_clean t (and_parts (nat_lt 0 (length t) && nat_le (length t) 16) (all_name_bytes t) e).1
 
 pub name_format : {W : Type 0} → IsFormat {W = W} name_word name_spelling (λ t. is_name t ≡ true)
 name_format {W} = record { found = found; again = λ x rest fits. rw fits refl; clean = λ x fits. (name_clean x fits, tt) }

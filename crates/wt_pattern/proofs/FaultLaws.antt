@@ -8,11 +8,10 @@ use Rattle.wt_tile.specs.Matching.{matches}
 use Rattle.wt_grid.specs.First.{first_from}
 use Rattle.wt_grid.specs.Grid.{Grid, cell, IsGrid, along, across}
 use Rattle.wt_grid.specs.Parts.{AllBelow, IsValid, IsWindow}
-use Rattle.wt_grid.proofs.First.{none_from}
+use Rattle.wt_grid.proofs.First.{none_from, all_none}
 use Rattle.wt_pattern.specs.declared.fault.Fault.{Fault}
 use Rattle.wt_pattern.specs.Validity.{stranger_at, stranger_in, first_stranger, clashes, fault_at, fault_in, first_fault}
 use Rattle.wt_pattern.specs.Windows.{window_size}
-use Rattle.wt_pattern.proofs.First.{all_none}
 
 -- where none of n numbers has an answer, each has none, and the other way round
 pub each_none : {A : Type 0} (f : ℕ → Option A) (n : ℕ) → first_from f 0 n ≡ None → (k : ℕ) → k < n → f k ≡ None

@@ -1,15 +1,9 @@
 -- Numbers without an answer, before or behind those that may have one.
 use Rattle.std.proofs.Common.{arith, ◌≡◌, ℕ, zero, suc, ◌+◌, ◌-◌, ◌≤◌, ◌<◌, Option, None, Some, Bool, true, false, if◌then◌else◌, refl, ap}
+use Rattle.wt_grid.proofs.First.{all_none}
 use Rattle.std.specs.Option.{option_map}
 use Rattle.wt_grid.specs.First.{or_else, first_from}
 use Rattle.wt_pattern.specs.Rows.{flagged}
-
-pub all_none : {A : Type 0} (f : ℕ → Option A) (i n : ℕ) → ((k : ℕ) → i ≤ k → k < i + n → f k ≡ None) → first_from f i n ≡ None
-all_none f i zero h = refl
-all_none f i (suc n) h =
-    let here : f i ≡ None = h i (omega arith) (omega arith) in
-    let rest : first_from f (i + 1) n ≡ None = all_none f (i + 1) n (λ k le lt. h k (omega arith) (omega arith)) in
-    rw (here, rest) refl
 
 -- the first k of n numbers have no answer
 pub none_ahead : {A : Type 0} (f : ℕ → Option A) (i n k : ℕ) → k ≤ n → ((j : ℕ) → i ≤ j → j < i + k → f j ≡ None) → first_from f i n ≡ first_from f (i + k) (n - k)

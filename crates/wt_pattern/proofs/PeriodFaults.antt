@@ -1,5 +1,6 @@
 -- Where a row differs from another row, moved by a shift.
 use Rattle.std.proofs.Common.{arith, ◌≡◌, ℕ, ◌+◌, ◌-◌, ◌≤◌, ◌<◌, List, take, drop, length, get_or, Option, None, Some, Bool, true, false, not, nat_eq, nat_lt, nat_le, if◌then◌else◌, refl, ap, sym, ◌∙◌}
+use Rattle.wt_grid.proofs.First.{all_none}
 use Rattle.std.specs.Option.{option_map}
 use Rattle.std.proofs.lemmas.Bool.Decides.{nat_tests}
 use Rattle.std.proofs.lemmas.List.{get_or-take, get_or-drop, length-take, length-drop, take_all}
@@ -10,7 +11,7 @@ use Rattle.wt_pattern.specs.declared.periods.Shift.{Shift}
 use Rattle.wt_pattern.specs.declared.periods.Shift.TheVariants.{Forward, Back}
 use Rattle.wt_pattern.specs.Rows.{flagged, first_place}
 use Rattle.wt_pattern.specs.Periods.{shifted, differs, is_apart, unlike, period_fault_at, period_fault_in}
-use Rattle.wt_pattern.proofs.First.{all_none, none_ahead, none_behind, mapped}
+use Rattle.wt_pattern.proofs.First.{none_ahead, none_behind, mapped}
 use Rattle.wt_pattern.proofs.Lines.{by_places, later, within}
 use Rattle.wt_pattern.proofs.RowFaults.{row, row_cell, row_length}
 

@@ -1,5 +1,6 @@
 -- The faults of a row: the first to the right and the first upwards, and the colours along a line of cells.
 use Rattle.std.proofs.Common.{arith, ◌≡◌, ℕ, zero, suc, ◌+◌, ◌-◌, ◌*◌, ◌≤◌, ◌<◌, List, take, drop, map, length, get_or, Option, None, Some, Bool, true, false, not, nat_lt, nat_le, if◌then◌else◌, refl, ap, sym, ◌∙◌}
+use Rattle.wt_grid.proofs.First.{all_none}
 use Rattle.wt_grid.specs.declared.axis.Axis.TheVariants.{One, Two}
 use Rattle.wt_grid.specs.declared.axis.Axis.{Axis}
 use Rattle.std.specs.List.{slice_range}
@@ -14,7 +15,7 @@ use Rattle.wt_grid.specs.Grid.{Grid, cell, IsGrid}
 use Rattle.wt_pattern.specs.declared.fault.Fault.{Fault}
 use Rattle.wt_pattern.specs.Validity.{clashes, fault_in}
 use Rattle.wt_pattern.specs.Rows.{flagged, first_place, earlier, colours_ahead, colours_behind}
-use Rattle.wt_pattern.proofs.First.{all_none, none_behind, place_within}
+use Rattle.wt_pattern.proofs.First.{none_behind, place_within}
 use Rattle.wt_pattern.proofs.Lines.{by_places, found, skip, later, within}
 
 -- the fault at a place, by two tests

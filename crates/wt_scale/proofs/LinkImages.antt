@@ -1,5 +1,8 @@
 -- Each valid coarse pattern of a good step, of either kind, has an image, which is valid and no smaller.
 use Rattle.std.proofs.Common.{arith, ◌≡◌, ◌<◌, ◌≤◌, ◌+◌, ℕ, suc, List, [], ◌∷◌, length, get_or, None, true, false, nat_eq, refl, sym, ◌∙◌, ap, subst}
+use Rattle.wt_step.proofs.Tables.{same_itself}
+use Rattle.wt_chain.proofs.Turned.{across_same}
+use Rattle.std.proofs.lemmas.Bool.{and_parts}
 use Rattle.wt_grid.specs.Axes.{same_axis}
 use Rattle.wt_grid.specs.declared.image.Image.TheVariants.{One as Single}
 use Rattle.wt_grid.specs.declared.axis.Axis.TheVariants.{One, Two}
@@ -10,7 +13,6 @@ use Rattle.std.proofs.Math.ListN.{get_or-map}
 use Rattle.wt_tile.specs.Matching.{matches}
 use Rattle.wt_pattern.specs.Patterns.{IsPattern}
 use Rattle.wt_grid.specs.Order.{in_order, is_below, comes_before}
-use Rattle.wt_grid.proofs.Order.{both}
 use Rattle.wt_grid.specs.Lines.{IsImage}
 use Rattle.wt_grid.specs.Grid.{Grid, along, across, lines, of_lines}
 use Rattle.wt_grid.specs.Parts.{AllBelow}
@@ -37,13 +39,9 @@ long_of : (axis : Axis) (m : ℕ) (ls : List (List ℕ)) → along axis (of_line
 long_of One m ls = refl
 long_of Two m ls = refl
 
-wide_of : (axis : Axis) (m : ℕ) (ls : List (List ℕ)) → across axis (of_lines axis m ls) ≡ m
-wide_of One m ls = refl
-wide_of Two m ls = refl
-
 module _ (l : RawLink) (q : Grid) where
   wide_image : across (axis_of l) (image_under l q) ≡ across (axis_of l) q
-  wide_image = wide_of (axis_of l) (across (axis_of l) q) (image_lines (pieces_of l) (lines (axis_of l) q))
+  wide_image = across_same (axis_of l) (across (axis_of l) q) (image_lines (pieces_of l) (lines (axis_of l) q))
 
   long_image : along (axis_of l) (image_under l q) ≡ length (image_lines (pieces_of l) (lines (axis_of l) q))
   long_image = long_of (axis_of l) (across (axis_of l) q) (image_lines (pieces_of l) (lines (axis_of l) q))
@@ -71,7 +69,7 @@ module _ (s : RawRestrict) (e : link_fault (Restrict s) ≡ None) (g : GoodRestr
 
   kept_count : length (kept_pieces s) ≡ length s.coarse.tiles
   kept_count =
-      let b = (both (in_order (is_below (length s.fine.tiles)) comes_before s.kept) (nat_eq (length s.kept) (length s.coarse.tiles)) g.sorted.kept).1 in
+      let b = (and_parts (in_order (is_below (length s.fine.tiles)) comes_before s.kept) (nat_eq (length s.kept) (length s.coarse.tiles)) g.sorted.kept).1 in
       let n : length s.kept ≡ length s.coarse.tiles = grind (arith, nat_tests, b) in
       length-map s.kept Single ∙ n
 
@@ -97,10 +95,6 @@ module _ (s : RawRestrict) (e : link_fault (Restrict s) ≡ None) (g : GoodRestr
   kept_lines (q ∷ qs) = rw (kept_single q) (ap suc (kept_lines qs))
 
 -- ---- steps of either kind
-
-same_itself : (axis : Axis) → same_axis axis axis ≡ true
-same_itself One = refl
-same_itself Two = refl
 
 pub link_image : (l : RawLink) → link_fault l ≡ None → (q : Grid) → IsPattern (coarse_of l).tiles q → ValidImage l q
 unfolding link_fault

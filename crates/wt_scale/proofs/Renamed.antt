@@ -1,5 +1,6 @@
 -- Patterns whose tiles are renamed.
 use Rattle.std.proofs.Common.{arith, ◌≡◌, ◌≤◌, ◌<◌, ◌+◌, ℕ, zero, suc, List, [], ◌∷◌, length, get_or, Bool, true, false, nat_eq, refl, sym, ◌∙◌, ap}
+use Rattle.wt_grid.proofs.Grids.{listed_same}
 use Rattle.wt_grid.specs.declared.axis.Axis.TheVariants.{One, Two}
 use Rattle.wt_grid.specs.declared.axis.Axis.{Axis}
 use Rattle.std.proofs.lemmas.Bool.Decides.{nat_tests}
@@ -13,7 +14,7 @@ use Rattle.wt_grid.specs.Widths.{Stage, next_row, last_row}
 use Rattle.wt_grid.specs.Traces.{segment, IsTraced}
 use Rattle.wt_grid.proofs.Bridge.{cell_of}
 use Rattle.wt_grid.proofs.Parts.{grid_grid}
-use Rattle.wt_grid.proofs.Traces.{listed_map, listed_same}
+use Rattle.wt_grid.proofs.Traces.{listed_map}
 use Rattle.wt_chain.specs.Growth.{origin_from, origin, renaming_stage}
 
 later : (r : ℕ) (rs : List ℕ) (t i : ℕ) → nat_eq r t ≡ false → i < length (r ∷ rs) → get_or (r ∷ rs) i 0 ≡ t → (j : ℕ) × (j < length rs) × (get_or rs j 0 ≡ t)

@@ -1,9 +1,9 @@
 -- The lines of a core are the cut core between the border lines that are cut.
 use Rattle.std.proofs.Common.{arith, ◌≡◌, ◌≤◌, ◌+◌, ◌-◌, ◌++◌, ℕ, suc, List, [], ◌∷◌, Bool, true, false, not, nat_le, refl, sym, ◌∙◌, ap, subst}
+use Rattle.std.proofs.lemmas.Bool.{and_parts}
 use Rattle.wt_grid.specs.declared.axis.Side.{Side}
 use Rattle.std.proofs.lemmas.List.{append-nil}
 use Rattle.std.proofs.lemmas.Bool.Decides.{nat_tests}
-use Rattle.wt_grid.proofs.Order.{both}
 use Rattle.wt_grid.specs.Grid.{Grid, along, across, at, listed, lines}
 use Rattle.wt_grid.specs.Lines.{is_marker_line}
 use Rattle.wt_grid.specs.Cuts.{cut}
@@ -61,7 +61,7 @@ module _ (s : RawStep) (p : Grid) where
       ≡ cut_line (cuts_low (Marker s) p) (core_line s p 0) ++ (cut_core s p ++ cut_line (cuts_high (Marker s) p) (core_line s p (along s.axis (core s.radius p) - 1)))
   border_lines h =
       let n = along s.axis (core s.radius p) in
-      let t = both (nat_le 3 n) (nat_le 1 (across s.axis (core s.radius p))) h in
+      let t = and_parts (nat_le 3 n) (nat_le 1 (across s.axis (core s.radius p))) h in
       let l : 3 ≤ n = grind (arith, nat_tests, t.0) in
       let w : 1 ≤ across s.axis (core s.radius p) = grind (arith, nat_tests, t.1) in
       borders s.side (is_marker s) (core_line s p) n (cuts_low (Marker s) p) (cuts_high (Marker s) p) (omega arith)

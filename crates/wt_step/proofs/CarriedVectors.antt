@@ -1,10 +1,10 @@
 -- What the number of blocks makes of a period.
 use Rattle.std.proofs.Common.{arith, ◌≡◌, ◌≤◌, ◌+◌, ◌-◌, ℕ, zero, suc, ℤ, pos, negsuc, ◌↔◌, None, true, ◌&&◌, not, nat_le, refl, sym, ◌∙◌, ap, subst}
+use Rattle.std.proofs.lemmas.Bool.{and_parts}
 use Rattle.wt_grid.specs.declared.axis.Axis.TheVariants.{One, Two}
 use Rattle.wt_grid.specs.declared.axis.Axis.{Axis}
 use Rattle.std.proofs.lemmas.Int.{ints}
 use Rattle.std.proofs.lemmas.Bool.Decides.{nat_tests}
-use Rattle.wt_grid.proofs.Order.{both}
 use Rattle.wt_pattern.specs.Patterns.{IsPattern}
 use Rattle.wt_pattern.specs.Periods.{IsPeriod, IsPeriodAlong}
 use Rattle.wt_pattern.proofs.PeriodLaws.{turned_period, turned_back}
@@ -79,7 +79,7 @@ rest One dx dy = dy
 rest Two dx dy = dx
 
 fits : (a b n m : ℕ) → (nat_le a n && nat_le b m) ≡ true → (a ≤ n) × (b ≤ m)
-fits a b n m h = let t = both (nat_le a n) (nat_le b m) h in (grind (arith, nat_tests, t.0), grind (arith, nat_tests, t.1))
+fits a b n m h = let t = and_parts (nat_le a n) (nat_le b m) h in (grind (arith, nat_tests, t.0), grind (arith, nat_tests, t.1))
 
 pub room_along : (axis : Axis) (c : Grid) (dx dy : ℤ) → has_room_along axis c dx dy ≡ true → (magnitude (part axis dx dy) + 3 ≤ along axis c) × (magnitude (rest axis dx dy) + 1 ≤ across axis c)
 room_along One c dx dy h = fits (magnitude dx + 3) (magnitude dy + 1) c.width c.height h

@@ -1,5 +1,6 @@
 -- In the core of a valid rectangle each pair of neighbours is allowed.
 use Rattle.std.proofs.Common.{arith, ◌≡◌, ◌≤◌, ◌<◌, ◌+◌, ℕ, zero, suc, List, [], ◌∷◌, length, slice_get, Option, None, Some, Bool, true, false, ◌&&◌, ◌||◌, not, nat_eq, nat_le, nat_lt, refl, sym, ◌∙◌, ap, subst, inl, inr}
+use Rattle.std.proofs.lemmas.Bool.{and_parts}
 use Rattle.std.specs.List.{find}
 use Rattle.wt_grid.specs.Axes.{axis_number}
 use Rattle.wt_grid.specs.declared.axis.Axis.TheVariants.{One, Two}
@@ -9,8 +10,7 @@ use Rattle.wt_tile.specs.Matching.{matches}
 use Rattle.wt_refute.specs.declared.tree.Refuted.{Refuted}
 use Rattle.wt_refute.specs.Refutes.{tree_fault}
 use Rattle.wt_grid.specs.Order.{leads, in_order, AllAbove, IsSplit}
-use Rattle.wt_grid.proofs.First.{none_from, count_none, count_some}
-use Rattle.wt_grid.proofs.Order.{both}
+use Rattle.wt_grid.proofs.First.{none_from, count_none, count_some, none_under}
 use Rattle.wt_grid.specs.Grid.{Grid, at}
 use Rattle.wt_grid.specs.Parts.{core, AllBelow, IsValid, IsWindow}
 use Rattle.wt_grid.proofs.Parts.{core_window, core_valid, core_below}
@@ -26,7 +26,6 @@ use Rattle.wt_refute.proofs.Faults.{all_empty}
 use Rattle.wt_pattern.specs.Windows.{IsEmptyWindow}
 use Rattle.wt_refute.proofs.Entries.{entries_split}
 use Rattle.wt_step.proofs.Shaped.{refuted_ascend}
-use Rattle.wt_step.proofs.Shaped.{none_under}
 use Rattle.wt_step.proofs.Goodness.{is_pair_same}
 
 -- what a look-up finds
@@ -43,12 +42,12 @@ fits_entry n m [] i k o e = absurd (cc e)
 fits_entry n m (r ∷ rs) zero k o e =
     let f : Some r ≡ Some k = e in
     let same : r ≡ k = cc in
-    let b = both (entry_fits n m r) (leads entries_follow r rs) (both (entry_fits n m r && leads entries_follow r rs) (in_order (entry_fits n m) entries_follow rs) o).0 in
+    let b = and_parts (entry_fits n m r) (leads entries_follow r rs) (and_parts (entry_fits n m r && leads entries_follow r rs) (in_order (entry_fits n m) entries_follow rs) o).0 in
     let P : Refuted → Type 0 = λ x. entry_fits n m x ≡ true in
-    let c = both (nat_le k.radius n && nat_lt k.a m) (nat_lt k.b m) (subst P same b.0) in
-    let d = both (nat_le k.radius n) (nat_lt k.a m) c.0 in
+    let c = and_parts (nat_le k.radius n && nat_lt k.a m) (nat_lt k.b m) (subst P same b.0) in
+    let d = and_parts (nat_le k.radius n) (nat_lt k.a m) c.0 in
     (grind (arith, nat_tests, d.0), grind (arith, nat_tests, d.1), grind (arith, nat_tests, c.1))
-fits_entry n m (r ∷ rs) (suc i) k o e = fits_entry n m rs i k (both (entry_fits n m r && leads entries_follow r rs) (in_order (entry_fits n m) entries_follow rs) o).1 e
+fits_entry n m (r ∷ rs) (suc i) k o e = fits_entry n m rs i k (and_parts (entry_fits n m r && leads entries_follow r rs) (in_order (entry_fits n m) entries_follow rs) o).1 e
 
 pub entry_itself : (k : Refuted) → is_entry k.radius k.axis k.a k.b k ≡ true
 entry_itself k =
@@ -76,10 +75,6 @@ axis_same One Two e = absurd (cc e)
 axis_same Two One e = absurd (cc e)
 axis_same Two Two e = refl
 
-grid_tile : (axis : Axis) → axis ≡ axis
-grid_tile One = refl
-grid_tile Two = refl
-
 module _ (s : RawStep) (g : GoodStep s) where
   pub known_entry : (i : ℕ) (k : Refuted) → slice_get s.refuted i ≡ Some k → entry_at s k.axis k.a k.b k.radius ≡ Some k
   known_entry i k e = found (entry_before k.radius k.axis k.a k.b) (is_entry k.radius k.axis k.a k.b) s.refuted i k
@@ -92,7 +87,7 @@ module _ (s : RawStep) (g : GoodStep s) where
       go true t = t
       go false t =
           let w = rw t at (g.named axis a b la lb) in
-          let z = (both (matches s.fine.tiles axis a b || not (allows s axis a b)) (nat_eq (times s axis a b) 0) w).1 in
+          let z = (and_parts (matches s.fine.tiles axis a b || not (allows s axis a b)) (nat_eq (times s axis a b) 0) w).1 in
           let none : times s axis a b ≡ 0 = grind (arith, nat_tests, z) in
           absurd (let n = count_none (entry_at s axis a b) 0 (s.radius + 1) r none (omega arith) (omega arith) in cc (n, e))
 
@@ -106,7 +101,7 @@ module _ (s : RawStep) (g : GoodStep s) where
       let barred = named_barred k.axis k.a k.b k.radius k f.1 f.2 f.0 known in
       let t = none_from (tree_fault_at s k.axis k.a k.b) 0 (s.radius + 1) k.radius (g.trees k.axis k.a k.b f.1 f.2 barred) (omega arith) (omega arith) in
       let P : Option Refuted → Type 0 = λ o. tree_answer s k.axis k.a k.b k.radius o ≡ None in (
-        (both (matches s.fine.tiles k.axis k.a k.b) (not (allows s k.axis k.a k.b)) barred).0,
+        (and_parts (matches s.fine.tiles k.axis k.a k.b) (not (allows s k.axis k.a k.b)) barred).0,
         none_under (Node k.axis k.a k.b) (tree_fault s.fine.tiles k.axis k.a k.b k.radius s.refuted k.tree) (subst P known t),
       )
 
@@ -123,8 +118,8 @@ module _ (s : RawStep) (g : GoodStep s) where
       let lt = c.1 in
       let f = find_some (is_entry c.0 axis a b) s.refuted c.2 c.3 in
       let k = c.2 in
-      let p = both (nat_eq k.radius c.0) (nat_eq (axis_number k.axis) (axis_number axis) && is_this_pair a b (k.a, k.b)) f.2 in
-      let q = both (nat_eq (axis_number k.axis) (axis_number axis)) (is_this_pair a b (k.a, k.b)) p.1 in
+      let p = and_parts (nat_eq k.radius c.0) (nat_eq (axis_number k.axis) (axis_number axis) && is_this_pair a b (k.a, k.b)) f.2 in
+      let q = and_parts (nat_eq (axis_number k.axis) (axis_number axis)) (is_this_pair a b (k.a, k.b)) p.1 in
       let x = axis_same k.axis axis q.0 in
       let y = is_pair_same a b (k.a, k.b) q.1 in
       let z : k.radius ≡ c.0 = grind (arith, nat_tests, p.0) in
@@ -150,4 +145,4 @@ module _ (s : RawStep) (g : GoodStep s) where
           let e = barred_empty axis (at axis (core s.radius c) i j) (at axis (core s.radius c) (suc i) j)
           (core_below axis (length s.fine.tiles) s.radius c b i j (omega arith) lj) (core_below axis (length s.fine.tiles) s.radius c b (suc i) j li lj) h in
           let w = core_window (length s.fine.tiles) (matches s.fine.tiles) axis c i j s.radius e.0 b v e.1 li lj in
-          absurd (e.2 w.0 (subst (λ (x : Axis). IsWindow (length s.fine.tiles) (matches s.fine.tiles) x (at axis (core s.radius c) i j) (at axis (core s.radius c) (suc i) j) e.0 w.0) (sym (grid_tile axis)) w.1))
+          absurd (e.2 w.0 w.1)

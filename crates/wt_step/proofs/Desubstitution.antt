@@ -1,5 +1,6 @@
 -- The law of desubstitution of a good step.
 use Rattle.std.proofs.Common.{arith, ◌≡◌, ◌≤◌, ◌++◌, ℕ, List, length, slice_get, Option, None, Some, option_map, true, nat_eq, refl, sym, ◌∙◌, ap, subst}
+use Rattle.std.proofs.lemmas.Bool.{and_parts}
 use Rattle.std.specs.List.{list_all}
 use Rattle.wt_grid.specs.Axes.{other}
 use Rattle.wt_grid.specs.Images.{first_tile, last_tile}
@@ -11,7 +12,6 @@ use Rattle.std.proofs.lemmas.Bool.Decides.{nat_tests}
 use Rattle.std.proofs.lemmas.Option.{slice_get-map}
 use Rattle.std.proofs.lemmas.List.{length-map}
 use Rattle.wt_tile.specs.Matching.{matches}
-use Rattle.wt_grid.proofs.Order.{both}
 use Rattle.wt_grid.specs.Lines.{IsGood, IsImage}
 use Rattle.wt_grid.proofs.Coarse.{first, last, MatchAcross}
 use Rattle.wt_grid.specs.Grid.{Grid, IsGrid, along, across, lines}
@@ -29,14 +29,6 @@ use Rattle.wt_step.specs.Meaning.{allowing, pieces, IsCoarse}
 use Rattle.wt_pattern.specs.Patterns.{IsPattern}
 use Rattle.wt_step.proofs.Tables.{good_table, some_of, same_itself, not_other}
 use Rattle.wt_step.proofs.Cores.{core_allowed}
-
-pub tile_grid : (axis : Axis) → axis ≡ axis
-tile_grid One = refl
-tile_grid Two = refl
-
-pub tile_other : (axis : Axis) → (other axis) ≡ other axis
-tile_other One = refl
-tile_other Two = refl
 
 first_piece : (x : Image) → first (piece x) ≡ first_tile x
 first_piece (Single a) = refl
@@ -59,7 +51,7 @@ matched_pieces ts axis (Double a b) (Double c d) m = rw (m.0, m.1) refl
 
 module _ (s : RawStep) (g : GoodStep s) where
   pub count_images : length s.images ≡ length s.coarse.tiles
-  count_images = let e = (both (nat_eq (length s.images) (length s.coarse.tiles)) (list_all (image_fits (length s.fine.tiles)) s.images) g.shaped.images).0 in grind (arith, nat_tests, e)
+  count_images = let e = (and_parts (nat_eq (length s.images) (length s.coarse.tiles)) (list_all (image_fits (length s.fine.tiles)) s.images) g.shaped.images).0 in grind (arith, nat_tests, e)
 
   -- coarse tiles match where their images do
   joined_images : (axis : Axis) (i j : ℕ) (x y : Image) → slice_get s.images i ≡ Some x → slice_get s.images j ≡ Some y → images_match s axis x y ≡ true → matches s.coarse.tiles axis i j ≡ true
@@ -89,18 +81,15 @@ module _ (s : RawStep) (g : GoodStep s) where
   -- the same, said with the axes of rectangles
   the_table : IsGood (step_table s.side (allowing s s.axis) (allowing s (other s.axis)) (is_marker s) (pieces s))
   the_table =
-      subst (λ (u : Axis). IsGood (step_table s.side (allows s u) (allows s ((other s.axis))) (is_marker s) (pieces s))) (sym (tile_grid s.axis))
-      (subst (λ (v : Axis). IsGood (step_table s.side (allows s s.axis) (allows s v) (is_marker s) (pieces s))) (sym (tile_other s.axis)) (good_table s g))
+      (good_table s g)
 
   the_joins : (i j : ℕ) (p r : Image) → slice_get (pieces s) i ≡ Some p → slice_get (pieces s) j ≡ Some r → matches s.fine.tiles s.axis (last p) (first r) ≡ true → matches s.coarse.tiles s.axis i j ≡ true
   the_joins i j p r e f m =
-      subst (λ (u : Axis). matches s.coarse.tiles u i j ≡ true) (sym (tile_grid s.axis))
-      (joins i j p r e f (subst (λ (u : Axis). matches s.fine.tiles u (last p) (first r) ≡ true) (tile_grid s.axis) m))
+      (joins i j p r e f m)
 
   the_stacks : (i j : ℕ) (p r : Image) → slice_get (pieces s) i ≡ Some p → slice_get (pieces s) j ≡ Some r → MatchAcross (matches s.fine.tiles (other s.axis)) p r → matches s.coarse.tiles (other s.axis) i j ≡ true
   the_stacks i j p r e f m =
-      subst (λ (u : Axis). matches s.coarse.tiles u i j ≡ true) (sym (tile_other s.axis))
-      (stacks i j p r e f (subst (λ (u : Axis). MatchAcross (matches s.fine.tiles u) p r) (tile_other s.axis) m))
+      (stacks i j p r e f m)
 
   -- Each valid rectangle has a coarse one inside its core, and that is valid.
   pub some_coarse : (c : Grid) → IsPattern s.fine.tiles c → 3 ≤ along s.axis (core s.radius c) → 1 ≤ across s.axis (core s.radius c)

@@ -1,5 +1,7 @@
 -- A step without a fault is good, and a good step has no fault.
 use Rattle.std.proofs.Common.{arith, ◌≡◌, ◌≤◌, ◌<◌, ◌+◌, ℕ, zero, suc, List, [], ◌∷◌, length, take, Option, None, option_map, Bool, true, false, ◌&&◌, ◌||◌, not, nat_eq, nat_le, if◌then◌else◌, refl, sym, ◌∙◌, ap}
+use Rattle.wt_grid.proofs.Order.{agreed, agrees}
+use Rattle.std.proofs.lemmas.Bool.{and_parts, not-true}
 use Rattle.std.specs.List.{list_any}
 use Rattle.wt_grid.specs.declared.image.Image.TheVariants.{One as Single, Two as Double}
 use Rattle.wt_grid.specs.declared.axis.Axis.TheVariants.{One, Two}
@@ -9,8 +11,7 @@ use Rattle.wt_tile.specs.Sets.{set_fault}
 use Rattle.wt_tile.specs.Matching.{matches}
 use Rattle.wt_grid.specs.First.{or_else, first_from}
 use Rattle.wt_grid.specs.Order.{first_in, agree}
-use Rattle.wt_grid.proofs.First.{neither, none_from}
-use Rattle.wt_grid.proofs.Order.{both}
+use Rattle.wt_grid.proofs.First.{neither, none_from, all_none}
 use Rattle.wt_step.specs.declared.raw.RawStep.{RawStep}
 use Rattle.wt_step.specs.declared.raw.StepFault.{StepFault}
 use Rattle.wt_step.specs.declared.raw.StepFault.TheVariants.{Radius, Fine, Coarse, Markers, Allowed, RefutedList, Images, Pair, Marker, Image as BadImage, MissingTile, MissingPair, Join}
@@ -20,16 +21,11 @@ use Rattle.wt_step.specs.Faults.{unless, shape_fault, markers_fit, allowed_fit, 
 use Rattle.wt_step.specs.Good.{GoodStep}
 use Rattle.wt_step.proofs.Shaped.{holds, shaped}
 
--- Answers that are none.
-pub all_none : {A : Type 0} (f : ℕ → Option A) (i n : ℕ) → ((k : ℕ) → i ≤ k → k < i + n → f k ≡ None) → first_from f i n ≡ None
-all_none f i zero h = refl
-all_none f i (suc n) h = rw (h i (omega arith) (omega arith)) (all_none f (i + 1) n (λ k lo hi. h k (omega arith) (omega arith)))
-
 pub none_both : {A : Type 0} (a b : Option A) → a ≡ None → b ≡ None → or_else a b ≡ None
 none_both a b e f = rw e f
 
 pub is_pair_same : (a b : ℕ) (p : ℕ × ℕ) → is_this_pair a b p ≡ true → (p.0 ≡ a) × (p.1 ≡ b)
-is_pair_same a b p e = let g = both (nat_eq p.0 a) (nat_eq p.1 b) e in (grind (arith, nat_tests, g.0), grind (arith, nat_tests, g.1))
+is_pair_same a b p e = let g = and_parts (nat_eq p.0 a) (nat_eq p.1 b) e in (grind (arith, nat_tests, g.0), grind (arith, nat_tests, g.1))
 
 is_pair_itself : (p : ℕ × ℕ) → is_this_pair p.0 p.1 p ≡ true
 is_pair_itself p =
@@ -62,20 +58,6 @@ none_in f (p ∷ ps) h =
 
 pub fits : (b : Bool) (fault : StepFault) → b ≡ true → unless b fault ≡ None
 fits b fault e = rw e refl
-
-pub agreed : (a b : Bool) → agree a b ≡ true → a ≡ b
-agreed true b e = sym e
-agreed false true e = absurd (cc e)
-agreed false false e = refl
-
-pub agrees : (a b : Bool) → a ≡ b → agree a b ≡ true
-agrees true b e = sym e
-agrees false true e = absurd (cc e)
-agrees false false e = refl
-
-pub not_true : (a : Bool) → not a ≡ true → a ≡ false
-not_true true e = absurd (cc e)
-not_true false e = refl
 
 implied : (a b : Bool) → (not a || b) ≡ true → a ≡ true → b ≡ true
 implied true b e f = e
@@ -121,7 +103,7 @@ module _ (s : RawStep) where
         neither (unless (is_named_well s axis a b) (Pair axis a b)) (if is_barred s axis a b then trees_fault s axis a b else None)
         (pair_good axis (by_axis (λ x. pairs_fault s x ≡ None) p1.0 p2.0 axis) a b la lb) in
         let image = λ (i : ℕ) (li : i < length s.images).
-        both (is_good_image s (image_at s i)) (not (list_any (same_image (image_at s i)) (take i s.images)))
+        and_parts (is_good_image s (image_at s i)) (not (list_any (same_image (image_at s i)) (take i s.images)))
         (holds (is_good_image s (image_at s i) && not (list_any (same_image (image_at s i)) (take i s.images))) (BadImage i)
         (none_from (image_fault_at s) 0 (length s.images) i im.0 (omega arith) (omega arith))) in
         record {
@@ -131,7 +113,7 @@ module _ (s : RawStep) where
           marked = λ axis a b h. holds (is_marked_well s axis a b) (Marker axis a b)
               (none_at (marker_fault_at s axis) (allowed s axis) (by_axis (λ x. marker_fault s x ≡ None) m1.0 m2.0 axis) a b h);
           images = λ i li. (image i li).0;
-          distinct = λ i li. not_true (list_any (same_image (image_at s i)) (take i s.images)) (image i li).1;
+          distinct = λ i li. not-true (list_any (same_image (image_at s i)) (take i s.images)) (image i li).1;
           has_tiles = λ u lu h. implied (is_demanded s u) (list_any (same_image (Single u)) s.images)
               (holds (not (is_demanded s u) || list_any (same_image (Single u)) s.images) (MissingTile u)
               (none_from (missing_tile_at s) 0 (length s.fine.tiles) u mt.0 (omega arith) (omega arith))) h;

@@ -1,5 +1,6 @@
 -- Each valid coarse pattern of a good step has an image, and that is valid.
 use Rattle.std.proofs.Common.{arith, ◌≡◌, ◌<◌, ℕ, zero, suc, List, [], ◌∷◌, length, get_or, Bool, true, false, ◌&&◌, ◌||◌, not, nat_eq, nat_lt, if◌then◌else◌, refl, sym, ◌∙◌, ap, subst}
+use Rattle.std.proofs.lemmas.Bool.{and_parts}
 use Rattle.std.specs.List.{list_all}
 use Rattle.wt_grid.specs.Axes.{other}
 use Rattle.wt_grid.specs.declared.image.Image.TheVariants.{One as Single, Two as Double}
@@ -10,7 +11,6 @@ use Rattle.std.proofs.lemmas.List.{length-map}
 use Rattle.std.proofs.Math.ListN.{get_or-map}
 use Rattle.wt_tile.specs.Matching.{matches}
 use Rattle.wt_pattern.specs.Patterns.{IsPattern}
-use Rattle.wt_grid.proofs.Order.{both}
 use Rattle.wt_grid.specs.Lines.{IsImage}
 use Rattle.wt_grid.specs.Grid.{Grid, lines}
 use Rattle.wt_grid.specs.Parts.{AllBelow}
@@ -25,18 +25,18 @@ use Rattle.wt_step.specs.Good.{GoodStep}
 use Rattle.wt_morphism.specs.Images.{piece}
 use Rattle.wt_step.specs.Meaning.{pieces}
 use Rattle.wt_step.proofs.Tables.{same_itself, not_other, in_range}
-use Rattle.wt_step.proofs.Desubstitution.{tile_grid, tile_other, count_images}
+use Rattle.wt_step.proofs.Desubstitution.{count_images}
 
 fit_at : (n : ℕ) (xs : List Image) (i : ℕ) → list_all (image_fits n) xs ≡ true → i < length xs → image_fits n (get_or xs i (Single 0)) ≡ true
 fit_at n [] i h lt = absurd (omega arith)
 fit_at n (x ∷ xs) i h lt = elim i as (λ k. k < length (x ∷ xs) → image_fits n (get_or (x ∷ xs) k (Single 0)) ≡ true) [
-  | zero ↦ λ l. (both (image_fits n x) (list_all (image_fits n) xs) h).0
-  | suc k ↦ λ l. fit_at n xs k (both (image_fits n x) (list_all (image_fits n) xs) h).1 (omega arith)
+  | zero ↦ λ l. (and_parts (image_fits n x) (list_all (image_fits n) xs) h).0
+  | suc k ↦ λ l. fit_at n xs k (and_parts (image_fits n x) (list_all (image_fits n) xs) h).1 (omega arith)
 ] lt
 
 fit_below : (n : ℕ) (x : Image) → image_fits n x ≡ true → PieceBelow n (piece x)
 fit_below n (Single a) h = grind (arith, nat_tests, h)
-fit_below n (Double a b) h = let f = both (nat_lt a n) (nat_lt b n) h in (grind (arith, nat_tests, f.0), grind (arith, nat_tests, f.1))
+fit_below n (Double a b) h = let f = and_parts (nat_lt a n) (nat_lt b n) h in (grind (arith, nat_tests, f.0), grind (arith, nat_tests, f.1))
 
 first_is : (x : Image) → first_of (piece x) ≡ first_of x
 first_is (Single a) = refl
@@ -50,7 +50,7 @@ piecewise : (ts : List _) (axis : Axis) (x y : Image) → pieces_match ts axis x
 piecewise ts axis (Single a) (Single b) m = m
 piecewise ts axis (Single a) (Double c d) m = absurd cc
 piecewise ts axis (Double a b) (Single c) m = absurd cc
-piecewise ts axis (Double a b) (Double c d) m = both (matches ts axis a c) (matches ts axis b d) m
+piecewise ts axis (Double a b) (Double c d) m = and_parts (matches ts axis a c) (matches ts axis b d) m
 
 not_barred : (m a : Bool) (n : Bool) (t0 t1 : Bool) → a ≡ true → (if m && not a then t1 else (m || not a) && t0) ≡ true → m ≡ true
 not_barred true a n t0 t1 e h = refl
@@ -91,7 +91,7 @@ module _ (s : RawStep) (g : GoodStep s) where
 
   block_of : (x : Image) → is_good_image s x ≡ true → is_pair (piece x) ≡ true → matches s.fine.tiles s.axis (first_of (piece x)) (last_of (piece x)) ≡ true
   block_of (Single a) h p = absurd cc
-  block_of (Double a b) h p = allowed_match s.axis a b (both (allows s s.axis a b) (is_block s a b) h).0
+  block_of (Double a b) h p = allowed_match s.axis a b (and_parts (allows s s.axis a b) (is_block s a b) h).0
 
   blocks : (i : ℕ) → i < length (pieces s) → is_pair (piece_at (pieces s) i) ≡ true → matches s.fine.tiles s.axis (first_of (piece_at (pieces s) i)) (last_of (piece_at (pieces s) i)) ≡ true
   blocks i li p =
@@ -102,7 +102,7 @@ module _ (s : RawStep) (g : GoodStep s) where
   tiles : (i : ℕ) → i < length (pieces s) → PieceBelow (length s.fine.tiles) (piece_at (pieces s) i)
   tiles i li =
       let n = images_long in
-      let f = (both (nat_eq (length s.images) (length s.coarse.tiles)) (list_all (image_fits (length s.fine.tiles)) s.images) g.shaped.images).1 in
+      let f = (and_parts (nat_eq (length s.images) (length s.coarse.tiles)) (list_all (image_fits (length s.fine.tiles)) s.images) g.shaped.images).1 in
       subst (λ (x : Image). PieceBelow (length s.fine.tiles) x) (sym (at_piece i)) (fit_below (length s.fine.tiles) (image_at s i) (fit_at (length s.fine.tiles) s.images i f (omega arith)))
 
   pub image_valid : (q : Grid) → IsPattern s.coarse.tiles q
@@ -112,10 +112,8 @@ module _ (s : RawStep) (g : GoodStep s) where
       let c = matches s.coarse.tiles in
       let a = s.axis in
       let r = valid_image a f c (pieces s) (length s.fine.tiles)
-      (λ i j li lj m. subst (λ (u : Axis). matches s.fine.tiles u (last_of (piece_at (pieces s) i)) (first_of (piece_at (pieces s) j)) ≡ true) (sym (tile_grid s.axis))
-      (joined i j li lj (subst (λ (u : Axis). matches s.coarse.tiles u i j ≡ true) (tile_grid s.axis) m)))
-      (λ i j li lj m. subst (λ (u : Axis). MatchAcross (matches s.fine.tiles u) (piece_at (pieces s) i) (piece_at (pieces s) j)) (sym (tile_other s.axis))
-      (stacked i j li lj (subst (λ (u : Axis). matches s.coarse.tiles u i j ≡ true) (tile_other s.axis) m)))
-      (λ i li h. subst (λ (u : Axis). matches s.fine.tiles u (first_of (piece_at (pieces s) i)) (last_of (piece_at (pieces s) i)) ≡ true) (sym (tile_grid s.axis)) (blocks i li h))
+      (λ i j li lj m. joined i j li lj m)
+      (λ i j li lj m. stacked i j li lj m)
+      (λ i li h. blocks i li h)
       tiles q p.0 (subst (λ (n : ℕ). AllBelow n q) (sym images_count) p.1) p.2 in
       ((r.0, r.1, r.2), r.3)

@@ -3,12 +3,11 @@ use Rattle.std.proofs.Common.{arith, ◌≡◌, ◌≤◌, ◌<◌, ◌+◌, ◌
 use Rattle.std.specs.List.{list_all}
 use Rattle.wt_grid.specs.declared.image.Image.TheVariants.{One as Single, Two as Double}
 use Rattle.wt_grid.specs.declared.image.Image.{Image}
-use Rattle.std.proofs.lemmas.Bool.{cases_lt}
+use Rattle.std.proofs.lemmas.Bool.{cases_lt, and_parts}
 use Rattle.std.proofs.lemmas.Bool.Decides.{nat_tests}
 use Rattle.std.proofs.lemmas.List.{get_or-set_same, get_or-set_other, length-set}
 use Rattle.std.proofs.lemmas.Nat.{div-mul-add, mod-mul-add, mul-add-lt}
 use Rattle.wt_tile.proofs.Sizes.{few_tiles}
-use Rattle.wt_grid.proofs.Order.{both}
 use Rattle.wt_step.specs.declared.raw.RawStep.{RawStep}
 use Rattle.wt_step.specs.Words.{image_fits, image_at}
 use Rattle.wt_step.specs.Good.{GoodStep}
@@ -22,8 +21,8 @@ at_place (x ∷ xs) (suc i) d lt = at_place xs i d (omega arith)
 
 each_of : {A : Type 0} (p : A → Bool) (xs : List A) (i : ℕ) (d : A) → list_all p xs ≡ true → i < length xs → p (slice_index_or xs i d) ≡ true
 each_of p [] i d e lt = absurd (omega arith)
-each_of p (x ∷ xs) zero d e lt = (both (p x) (list_all p xs) e).0
-each_of p (x ∷ xs) (suc i) d e lt = each_of p xs i d (both (p x) (list_all p xs) e).1 (omega arith)
+each_of p (x ∷ xs) zero d e lt = (and_parts (p x) (list_all p xs) e).0
+each_of p (x ∷ xs) (suc i) d e lt = each_of p xs i d (and_parts (p x) (list_all p xs) e).1 (omega arith)
 
 less : (a n : ℕ) → nat_lt a n ≡ true → a < n
 less a n e = grind (arith, nat_tests, e)
@@ -37,7 +36,7 @@ same_place n a b c d lb ld e = (
 
 pub good_sizes : (s : RawStep) → GoodStep s → (length s.fine.tiles ≤ 256) × (length s.images ≤ 256) × (length s.images ≡ length s.coarse.tiles)
 good_sizes s g =
-    let e = (both (nat_eq (length s.images) (length s.coarse.tiles)) (list_all (image_fits (length s.fine.tiles)) s.images) g.shaped.images).0 in
+    let e = (and_parts (nat_eq (length s.images) (length s.coarse.tiles)) (list_all (image_fits (length s.fine.tiles)) s.images) g.shaped.images).0 in
     let same : length s.images ≡ length s.coarse.tiles = grind (arith, nat_tests, e) in
     let f = few_tiles s.fine g.shaped.fine in
     let c = few_tiles s.coarse g.shaped.coarse in
@@ -45,7 +44,7 @@ good_sizes s g =
     (f.1, omega arith, same)
 
 pub fits_at : (s : RawStep) → GoodStep s → (i : ℕ) → i < length s.images → image_fits (length s.fine.tiles) (image_at s i) ≡ true
-fits_at s g i lt = each_of (image_fits (length s.fine.tiles)) s.images i (Single 0) (both (nat_eq (length s.images) (length s.coarse.tiles)) (list_all (image_fits (length s.fine.tiles)) s.images) g.shaped.images).1 lt
+fits_at s g i lt = each_of (image_fits (length s.fine.tiles)) s.images i (Single 0) (and_parts (nat_eq (length s.images) (length s.coarse.tiles)) (list_all (image_fits (length s.fine.tiles)) s.images) g.shaped.images).1 lt
 
 module _ (s : RawStep) (g : GoodStep s) (k : ℕ) (lk : k < length s.images) (singles pairs : List ℕ) (h : IsIndexed s.images (length s.fine.tiles) k singles pairs) where
   fitting : (i : ℕ) (x : Image) → slice_get s.images i ≡ Some x → image_fits (length s.fine.tiles) x ≡ true
@@ -74,7 +73,7 @@ module _ (s : RawStep) (g : GoodStep s) (k : ℕ) (lk : k < length s.images) (si
 
   double_noted : (a b : ℕ) → slice_get s.images k ≡ Some (Double a b) → IsIndexed s.images (length s.fine.tiles) (k + 1) singles (set pairs (a * length s.fine.tiles + b) k)
   double_noted a b e =
-      let fk = both (nat_lt a (length s.fine.tiles)) (nat_lt b (length s.fine.tiles)) (fitting k (Double a b) e) in
+      let fk = and_parts (nat_lt a (length s.fine.tiles)) (nat_lt b (length s.fine.tiles)) (fitting k (Double a b) e) in
       let la = less a (length s.fine.tiles) fk.0 in
       let lb = less b (length s.fine.tiles) fk.1 in
       let size = h.size2 in
@@ -87,7 +86,7 @@ module _ (s : RawStep) (g : GoodStep s) (k : ℕ) (lk : k < length s.images) (si
           | inr hi ↦ absurd (let x : i ≡ k = omega arith in let y : Some (Single c) ≡ Some (Double a b) = sym f ∙ (ap (slice_get s.images) x ∙ e) in cc)
         ];
         twos = λ i c d lt f.
-            let fi = both (nat_lt c (length s.fine.tiles)) (nat_lt d (length s.fine.tiles)) (fitting i (Double c d) f) in
+            let fi = and_parts (nat_lt c (length s.fine.tiles)) (nat_lt d (length s.fine.tiles)) (fitting i (Double c d) f) in
             let ld = less d (length s.fine.tiles) fi.1 in
             elim (cases_lt i k) [
               | inl lo ↦ get_or-set_other pairs (a * length s.fine.tiles + b) (c * length s.fine.tiles + d) k 0 (λ same.

@@ -10,8 +10,8 @@ use Rattle.wt_grid.specs.Parts.{core}
 use Rattle.wt_grid.proofs.Parts.{at_core, along_core, across_core, grid_grid}
 use Rattle.wt_grid.proofs.Bridge.{get_or-listed, cell_of}
 use Rattle.wt_grid.proofs.Law.{cut_long}
-use Rattle.wt_grid.proofs.Grids.{length_lines, long_lines, long_coarse}
-use Rattle.wt_grid.proofs.Rectangles.{same_cells, wide_along}
+use Rattle.wt_grid.proofs.Grids.{length_lines, long_lines, long_coarse, listed_same}
+use Rattle.wt_grid.proofs.Rectangles.{same_cells, wide_along, line_cell}
 use Rattle.wt_pattern.specs.Patterns.{IsPattern}
 use Rattle.wt_step.specs.declared.raw.RawStep.{RawStep}
 use Rattle.wt_step.specs.declared.blocks.Block.{Block}
@@ -24,24 +24,9 @@ use Rattle.wt_step.proofs.Desubstitution.{some_coarse}
 use Rattle.wt_step.proofs.CutListed.{behind, cut_listed}
 use Rattle.wt_step.proofs.Readings.{Reads, reads, length-reads, tiles}
 
-listed_same : {A : Type 0} (n : ℕ) (f h : ℕ → A) → ((k : ℕ) → k < n → f k ≡ h k) → listed n f ≡ listed n h
-listed_same zero f h e = refl
-listed_same (suc n) f h e = same_cons (f 0) (h 0) (listed n (λ k. f (suc k))) (listed n (λ k. h (suc k))) (e 0 (omega arith)) (listed_same n (λ k. f (suc k)) (λ k. h (suc k)) (λ k lt. e (suc k) (omega arith)))
-  where
-    same_cons : {A : Type 0} (x y : A) (xs ys : List A) → x ≡ y → xs ≡ ys → x ∷ xs ≡ y ∷ ys
-    same_cons x y xs ys e f = cc
-
-line_cell : (axis : Axis) (g : Grid) (i j : ℕ) → i < along axis g → j < across axis g → get_or (get_or (lines axis g) i []) j 0 ≡ at axis g i j
-line_cell axis g i j li lj =
-    ap (λ (u : List ℕ). get_or u j 0) (get_or-listed (along axis g) i (λ i. listed (across axis g) (λ j. at axis g i j)) [] li)
-    ∙ get_or-listed (across axis g) j (λ j. at axis g i j) 0 lj
-
 one_length : (a b : ℕ) (ls : List (List ℕ)) → 1 ≤ length ls → AllLong a ls → AllLong b ls → a ≡ b
 one_length a b [] le h k = absurd (omega arith)
 one_length a b (u ∷ ls) le h k = sym h.0 ∙ k.0
-
-true_both : (a b : Bool) → a ≡ true → b ≡ true → (a && b) ≡ true
-true_both a b e f = rw (e, f) refl
 
 from_behind : (b : Bool) (f : ℕ → List ℕ) (k : ℕ) → behind b f k ≡ f (one_if b + k)
 from_behind true f k = let e : suc k ≡ 1 + k = omega arith in ap f e

@@ -1,5 +1,6 @@
 -- What a walk along a list in strict order sees of it at its place.
 use Rattle.std.proofs.Common.{arith, ◌≡◌, ◌<◌, ◌≤◌, ◌+◌, ℕ, zero, suc, List, [], ◌∷◌, length, get_or, Bool, true, false, ◌&&◌, ◌||◌, nat_eq, nat_lt, nat_le, if◌then◌else◌, Some, None, is_some, refl, sym, ◌∙◌, ap, inl, inr}
+use Rattle.std.proofs.lemmas.Bool.{and_parts}
 use Rattle.std.specs.List.{list_any, find}
 use Rattle.wt_grid.specs.Axes.{axis_number}
 use Rattle.wt_grid.specs.declared.axis.Axis.{Axis}
@@ -7,7 +8,7 @@ use Rattle.std.proofs.lemmas.Bool.Decides.{nat_tests}
 use Rattle.wt_grid.specs.Order.{in_order, leads, AllAbove, IsSplit}
 use Rattle.wt_grid.specs.Pairs.{pair_before, is_this_pair, pairs_follow, pair_fits}
 use Rattle.wt_grid.proofs.Keys.{first_by, by_cases, by_less, pairs_split}
-use Rattle.wt_grid.proofs.Order.{both, has_found, above_none}
+use Rattle.wt_grid.proofs.Order.{has_found, above_none}
 use Rattle.wt_refute.specs.declared.tree.Refuted.{Refuted}
 use Rattle.wt_refute.specs.Entries.{entry_before, is_entry, entries_follow}
 use Rattle.wt_refute.proofs.Entries.{entries_split}
@@ -150,8 +151,8 @@ pub passed_same : {A : Type 0} (low other fits : A → Bool) (before : A → A �
     → (xs : List A) → in_order fits before xs ≡ true → passed low xs ≡ passed other xs
 passed_same low other fits before same [] o = refl
 passed_same low other fits before same (x ∷ xs) o =
-    let p = both (fits x && leads before x xs) (in_order fits before xs) o in
-    let q = both (fits x) (leads before x xs) p.0 in
+    let p = and_parts (fits x && leads before x xs) (in_order fits before xs) o in
+    let q = and_parts (fits x) (leads before x xs) p.0 in
     rw (same x q.0, passed_same low other fits before same xs p.1) refl
 
 -- Pairs, and the entries of a radius and an axis.
@@ -194,12 +195,12 @@ row_ends x y n a e =
 
 -- behind the last tile of a row comes the next row
 pub pair_row : (n a : ℕ) (p : ℕ × ℕ) → pair_fits n p ≡ true → pair_before a n p ≡ pair_before (a + 1) 0 p
-pair_row n a p e = row_ends p.0 p.1 n a (both (nat_lt p.0 n) (nat_lt p.1 n) e).1
+pair_row n a p e = row_ends p.0 p.1 n a (and_parts (nat_lt p.0 n) (nat_lt p.1 n) e).1
 
 pub entry_row : (most n radius : ℕ) (axis : Axis) (a : ℕ) (r : Refuted) → entry_fits most n r ≡ true → entry_before radius axis a n r ≡ entry_before radius axis (a + 1) 0 r
 entry_row most n radius axis a r e =
     ap (λ t. nat_lt r.radius radius || (nat_eq r.radius radius && (nat_lt (axis_number r.axis) (axis_number axis) || (nat_eq (axis_number r.axis) (axis_number axis) && t))))
-    (row_ends r.a r.b n a (both (nat_le r.radius most && nat_lt r.a n) (nat_lt r.b n) e).1)
+    (row_ends r.a r.b n a (and_parts (nat_le r.radius most && nat_lt r.a n) (nat_lt r.b n) e).1)
 
 abbrev under_radius : Axis → Refuted → Bool
 under_radius axis r = first_by (axis_number r.axis) (axis_number axis) (pair_before 0 0 (r.a, r.b))

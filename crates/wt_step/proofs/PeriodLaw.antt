@@ -16,7 +16,6 @@ use Rattle.wt_step.specs.Meaning.{allowing, pieces, IsCoarse}
 use Rattle.wt_step.specs.Carried.{IsCarried}
 use Rattle.wt_step.proofs.Cores.{core_allowed}
 use Rattle.wt_step.proofs.Tables.{good_table}
-use Rattle.wt_step.proofs.Desubstitution.{tile_grid, tile_other}
 
 pub lead : (opposed : Bool) (e n : ℕ) → e < n → 0 < n → cond opposed e 0 < n
 lead true e n lt le = lt
@@ -29,8 +28,7 @@ lag false e n lt le = lt
 -- the table of a good step, said with the axes of rectangles
 pub the_table : (s : RawStep) → GoodStep s → IsGood (step_table s.side (allowing s s.axis) (allowing s (other s.axis)) (is_marker s) (pieces s))
 the_table s g =
-    subst (λ (u : Axis). IsGood (step_table s.side (allows s u) (allows s ((other s.axis))) (is_marker s) (pieces s))) (sym (tile_grid s.axis))
-    (subst (λ (v : Axis). IsGood (step_table s.side (allows s s.axis) (allows s v) (is_marker s) (pieces s))) (sym (tile_other s.axis)) (good_table s g))
+    (good_table s g)
 
 pub carried : (s : RawStep) → GoodStep s → (p q : Grid) → IsPattern s.fine.tiles p → IsGrid q → IsCoarse s p q → (opposed : Bool) (d e : ℕ)
     → d + 3 ≤ along s.axis (core s.radius p) → e < across s.axis (core s.radius p) → HasVector s.axis opposed d e p → (n : ℕ) × IsCarried s opposed d e n q

@@ -2,13 +2,12 @@
 use Rattle.std.proofs.Common.{arith, ◌≡◌, ◌≤◌, ◌<◌, ◌+◌, ◌&&◌, ℕ, zero, suc, List, [], ◌∷◌, length, get_or, set, slice_get, slice_index, Some, option_map, true, nat_eq, nat_lt, refl, sym, ◌∙◌, ap, subst, inl, inr}
 use Rattle.wt_grid.specs.declared.image.Image.TheVariants.{One as Single}
 use Rattle.wt_grid.specs.declared.axis.Axis.TheVariants.{One}
-use Rattle.std.proofs.lemmas.Bool.{cases_lt}
+use Rattle.std.proofs.lemmas.Bool.{cases_lt, and_parts}
 use Rattle.std.proofs.lemmas.Bool.Decides.{nat_tests}
 use Rattle.std.proofs.lemmas.Option.{slice_get-map}
 use Rattle.std.proofs.lemmas.List.{get_or-set_same, get_or-set_other, length-set}
 use Rattle.wt_tile.proofs.Sizes.{few_tiles}
 use Rattle.wt_grid.specs.Order.{in_order, leads, comes_before, is_below}
-use Rattle.wt_grid.proofs.Order.{both}
 use Rattle.wt_grid.specs.Grid.{Grid, cell, grid_of}
 use Rattle.wt_grid.specs.Parts.{core}
 use Rattle.wt_grid.proofs.Parts.{at_core, along_core, across_core, grid_grid}
@@ -28,9 +27,9 @@ each_below n [] i a o e = absurd (cc e)
 each_below n (x ∷ xs) zero a o e =
     let f : Some x ≡ Some a = e in
     let same : x ≡ a = cc in
-    let b = (both (is_below n x) (leads comes_before x xs) (both (is_below n x && leads comes_before x xs) (in_order (is_below n) comes_before xs) o).0).0 in
+    let b = (and_parts (is_below n x) (leads comes_before x xs) (and_parts (is_below n x && leads comes_before x xs) (in_order (is_below n) comes_before xs) o).0).0 in
     let lt : x < n = grind (arith, nat_tests, b) in omega arith
-each_below n (x ∷ xs) (suc i) a o e = each_below n xs i a (both (is_below n x && leads comes_before x xs) (in_order (is_below n) comes_before xs) o).1 e
+each_below n (x ∷ xs) (suc i) a o e = each_below n xs i a (and_parts (is_below n x && leads comes_before x xs) (in_order (is_below n) comes_before xs) o).1 e
 
 there : (xs : List ℕ) (i : ℕ) → i < length xs → slice_get xs i ≡ Some (slice_index xs i)
 there [] i lt = absurd (omega arith)
@@ -47,7 +46,7 @@ kept_sizes s g =
 
 module _ (s : RawRestrict) (g : GoodRestrict s) where
   kept_below : (i a : ℕ) → slice_get s.kept i ≡ Some a → a < length s.fine.tiles
-  kept_below i a e = each_below (length s.fine.tiles) s.kept i a (both (in_order (is_below (length s.fine.tiles)) comes_before s.kept) (nat_eq (length s.kept) (length s.coarse.tiles)) g.sorted.kept).0 e
+  kept_below i a e = each_below (length s.fine.tiles) s.kept i a (and_parts (in_order (is_below (length s.fine.tiles)) comes_before s.kept) (nat_eq (length s.kept) (length s.coarse.tiles)) g.sorted.kept).0 e
 
   pub kept_inside : (k : ℕ) → k < length s.kept → kept_at s k < length s.fine.tiles
   kept_inside k lt = kept_below k (kept_at s k) (there s.kept k lt)

@@ -1,5 +1,6 @@
 -- Good restrict steps, and what they make of valid rectangles.
 use Rattle.std.proofs.Common.{arith, ◌≡◌, ◌≤◌, ◌<◌, ℕ, zero, suc, List, [], ◌∷◌, length, map, slice_get, Option, None, Some, option_map, Bool, true, false, not, nat_eq, nat_lt, nat_le, refl, sym, ◌∙◌, ap, subst, inl}
+use Rattle.std.proofs.lemmas.Bool.{and_parts}
 use Rattle.std.specs.List.{list_any}
 use Rattle.wt_grid.specs.declared.image.Image.TheVariants.{One as Single, Two as Double}
 use Rattle.wt_grid.specs.declared.image.Image.{Image}
@@ -13,8 +14,8 @@ use Rattle.wt_tile.specs.Matching.{matches}
 use Rattle.wt_refute.specs.Refutes.{tile_tree_fault}
 use Rattle.wt_refute.proofs.Faults.{absent}
 use Rattle.wt_grid.specs.Order.{in_order, first_in, agree, comes_before, is_below, IsSplit}
-use Rattle.wt_grid.proofs.First.{neither, none_from}
-use Rattle.wt_grid.proofs.Order.{both, split}
+use Rattle.wt_grid.proofs.First.{neither, none_from, all_none, none_under}
+use Rattle.wt_grid.proofs.Order.{split, agreed, agrees}
 use Rattle.wt_grid.specs.Lines.{Table, IsGood, Singles, IsImage}
 use Rattle.wt_grid.proofs.Coarse.{first, last, MatchAcross, coarse_field}
 use Rattle.wt_grid.proofs.Desub.{one_parse}
@@ -31,9 +32,9 @@ use Rattle.wt_step.specs.Faults.{unless}
 use Rattle.wt_step.specs.Restrict.{kept_fit, lost_fit, is_kept, is_lost, loses, sorted_fault_at, lost_fault, lost_fault_at, kept_at, kept_match, kept_join_at, kept_join_row, kept_join_fault, sorting_fault, use_fault, restrict_fault}
 use Rattle.wt_step.specs.Good.{GoodRestrict}
 use Rattle.wt_step.specs.Meaning.{kept_pieces, IsKept}
-use Rattle.wt_step.proofs.Shaped.{none_under, holds}
+use Rattle.wt_step.proofs.Shaped.{holds}
 use Rattle.wt_step.proofs.Sorted.{sorted}
-use Rattle.wt_step.proofs.Goodness.{agreed, agrees, all_none, none_both, fits}
+use Rattle.wt_step.proofs.Goodness.{none_both, fits}
 use Rattle.wt_step.proofs.Tables.{some_of, has_some}
 use Rattle.wt_step.proofs.Once.{one_place}
 
@@ -165,7 +166,7 @@ module _ (s : RawRestrict) (g : GoodRestrict s) where
           absurd (absent s.fine.tiles l.1.tile s.radius l.1.tree (g.trees l.0 l.1 l.2) c p x y lx ly same)
 
   pub count_kept : length s.kept ≡ length s.coarse.tiles
-  count_kept = let e = (both (in_order (is_below (length s.fine.tiles)) comes_before s.kept) (nat_eq (length s.kept) (length s.coarse.tiles)) g.sorted.kept).1 in grind (arith, nat_tests, e)
+  count_kept = let e = (and_parts (in_order (is_below (length s.fine.tiles)) comes_before s.kept) (nat_eq (length s.kept) (length s.coarse.tiles)) g.sorted.kept).1 in grind (arith, nat_tests, e)
 
   kept_joined : (axis : Axis) (i j a b : ℕ) → slice_get s.kept i ≡ Some a → slice_get s.kept j ≡ Some b → matches s.fine.tiles axis a b ≡ true → matches s.coarse.tiles axis i j ≡ true
   kept_joined axis i j a b e f m =
@@ -204,7 +205,7 @@ module _ (s : RawRestrict) (g : GoodRestrict s) where
 
   pub kept_once : (i j a : ℕ) → slice_get s.kept i ≡ Some a → slice_get s.kept j ≡ Some a → i ≡ j
   kept_once i j a e f =
-      let o = (both (in_order (is_below (length s.fine.tiles)) comes_before s.kept) (nat_eq (length s.kept) (length s.coarse.tiles)) g.sorted.kept).0 in
+      let o = (and_parts (in_order (is_below (length s.fine.tiles)) comes_before s.kept) (nat_eq (length s.kept) (length s.coarse.tiles)) g.sorted.kept).0 in
       one_place (λ z. nat_lt z a) (nat_eq a) s.kept i j a a (numbers_split (length s.fine.tiles) a s.kept o) e f (same_number a) (same_number a)
 
   ones_apart : (i j : ℕ) (p : Image) → slice_get (kept_pieces s) i ≡ Some p → slice_get (kept_pieces s) j ≡ Some p → i ≡ j

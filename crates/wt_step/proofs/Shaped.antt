@@ -7,15 +7,11 @@ use Rattle.wt_tile.specs.Sets.{set_fault}
 use Rattle.wt_refute.specs.Entries.{ascends}
 use Rattle.wt_refute.proofs.Entries.{ordered}
 use Rattle.wt_step.specs.Words.{entry_fits}
-use Rattle.wt_grid.proofs.First.{neither}
+use Rattle.wt_grid.proofs.First.{neither, none_under}
 use Rattle.wt_step.specs.declared.raw.RawStep.{RawStep}
 use Rattle.wt_step.specs.declared.raw.StepFault.{StepFault}
 use Rattle.wt_step.specs.declared.raw.StepFault.TheVariants.{Radius, Fine, Coarse, Markers, Allowed, RefutedList, Images}
 use Rattle.wt_step.specs.Faults.{unless, shape_fault, markers_fit, allowed_fit, refuted_fit, images_fit, IsShaped}
-
-pub none_under : {A B : Type 0} (f : A → B) (a : Option A) → option_map f a ≡ None → a ≡ None
-none_under f None e = refl
-none_under f (Some x) e = absurd cc
 
 pub holds : (b : Bool) (fault : StepFault) → unless b fault ≡ None → b ≡ true
 holds true fault e = refl

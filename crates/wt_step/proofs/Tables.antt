@@ -1,5 +1,6 @@
 -- What a good step allows is a good table of lines.
 use Rattle.std.proofs.Common.{arith, ◌≡◌, ◌<◌, ℕ, zero, suc, List, [], ◌∷◌, length, take, map, slice_get, slice_index_or, Option, None, Some, option_map, Bool, true, false, ◌&&◌, ◌||◌, not, nat_eq, nat_lt, refl, sym, ◌∙◌, ap, subst, inl, inr}
+use Rattle.wt_grid.proofs.Order.{agreed}
 use Rattle.std.specs.List.{list_any}
 use Rattle.wt_grid.specs.Axes.{same_axis, other}
 use Rattle.wt_grid.specs.declared.image.Image.TheVariants.{One as Single, Two as Double}
@@ -9,10 +10,9 @@ use Rattle.wt_grid.specs.declared.axis.Side.{Side}
 use Rattle.wt_grid.specs.declared.axis.Axis.TheVariants.{One, Two}
 use Rattle.wt_grid.specs.declared.axis.Axis.{Axis}
 use Rattle.std.proofs.lemmas.Bool.Decides.{nat_tests}
-use Rattle.std.proofs.lemmas.Bool.{cases_lt}
+use Rattle.std.proofs.lemmas.Bool.{cases_lt, and_parts, not-true}
 use Rattle.std.proofs.lemmas.Option.{slice_get-map}
 use Rattle.wt_grid.specs.Order.{in_order, agree}
-use Rattle.wt_grid.proofs.Order.{both}
 use Rattle.wt_grid.specs.Lines.{IsGood}
 use Rattle.wt_grid.specs.Cuts.{flip, step_table}
 use Rattle.wt_grid.proofs.Law.{unflipped, flipped}
@@ -23,7 +23,7 @@ use Rattle.wt_step.specs.Faults.{is_good_image, is_demanded}
 use Rattle.wt_step.specs.Good.{GoodStep}
 use Rattle.wt_morphism.specs.Images.{piece}
 use Rattle.wt_step.specs.Meaning.{pieces}
-use Rattle.wt_step.proofs.Goodness.{agreed, not_true, is_pair_same}
+use Rattle.wt_step.proofs.Goodness.{is_pair_same}
 
 pub same_itself : (axis : Axis) → same_axis axis axis ≡ true
 same_itself One = refl
@@ -72,9 +72,9 @@ has_before p (y ∷ xs) (suc i) (suc j) x e lt h = either (p y) (list_any p (tak
 fits_at : (n : ℕ) (ps : List (ℕ × ℕ)) (a b : ℕ) → in_order (pair_fits n) pairs_follow ps ≡ true → list_any (is_this_pair a b) ps ≡ true → (a < n) × (b < n)
 fits_at n [] a b o h = absurd (cc h)
 fits_at n (p ∷ ps) a b o h =
-    let k = both _ _ (both _ _ o).0 in
-    let f = both (nat_lt p.0 n) (nat_lt p.1 n) k.0 in
-    go (is_this_pair a b p) refl (fits_at n ps a b (both _ _ o).1) f.0 f.1
+    let k = and_parts _ _ (and_parts _ _ o).0 in
+    let f = and_parts (nat_lt p.0 n) (nat_lt p.1 n) k.0 in
+    go (is_this_pair a b p) refl (fits_at n ps a b (and_parts _ _ o).1) f.0 f.1
   where
     go : (t : Bool) → is_this_pair a b p ≡ t → (list_any (is_this_pair a b) ps ≡ true → (a < n) × (b < n)) → nat_lt p.0 n ≡ true → nat_lt p.1 n ≡ true → (a < n) × (b < n)
     go true t r f g = let e = is_pair_same a b p t in let x = e.0 in let y = e.1 in (grind (arith, nat_tests, f, x), grind (arith, nat_tests, g, y))
@@ -101,7 +101,7 @@ is_single a (Double b c) e = absurd (cc e)
 
 is_double : (a b : ℕ) (y : Image) → same_image (Double a b) y ≡ true → y ≡ Double a b
 is_double a b (Single c) e = absurd (cc e)
-is_double a b (Double c d) e = let g = both (nat_eq a c) (nat_eq b d) e in let k : a ≡ c = grind (arith, nat_tests, g.0) in let l : b ≡ d = grind (arith, nat_tests, g.1) in cc
+is_double a b (Double c d) e = let g = and_parts (nat_eq a c) (nat_eq b d) e in let k : a ≡ c = grind (arith, nat_tests, g.0) in let l : b ≡ d = grind (arith, nat_tests, g.1) in cc
 
 module _ (s : RawStep) (g : GoodStep s) where
   pub apart : (a b : ℕ) → allows s s.axis a b ≡ true → is_marker s a ≡ true → is_marker s b ≡ true → ⊥
@@ -121,10 +121,10 @@ module _ (s : RawStep) (g : GoodStep s) where
       subst P r.1 (g.images i r.0)
 
   pub singles : (i a : ℕ) → slice_get (pieces s) i ≡ Some (Single a) → is_marker s a ≡ false
-  singles i a e = not_true (is_marker s a) (image_some i (Single a) (from_piece (slice_get s.images i) a (sym (slice_get-map piece s.images i) ∙ e)))
+  singles i a e = not-true (is_marker s a) (image_some i (Single a) (from_piece (slice_get s.images i) a (sym (slice_get-map piece s.images i) ∙ e)))
 
   pub doubles : (i a b : ℕ) → slice_get (pieces s) i ≡ Some (Double a b) → joined s.side (is_marker s a) (is_marker s b) ≡ true
-  doubles i a b e = (both (allows s s.axis a b) (is_block s a b) (image_some i (Double a b) (from_pieces (slice_get s.images i) a b (sym (slice_get-map piece s.images i) ∙ e)))).1
+  doubles i a b e = (and_parts (allows s s.axis a b) (is_block s a b) (image_some i (Double a b) (from_pieces (slice_get s.images i) a b (sym (slice_get-map piece s.images i) ∙ e)))).1
 
   once : (i j : ℕ) (x : Image) → slice_get s.images i ≡ Some x → slice_get s.images j ≡ Some x → i < j → ⊥
   once i j x e f lt =

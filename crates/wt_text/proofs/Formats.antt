@@ -1,5 +1,6 @@
 -- Readers of a line put together: what is read is spelled so, and what is spelled so is read.
 use Rattle.std.proofs.Common.{rules, arith, ◌≡◌, ℕ, zero, suc, ◌+◌, ◌≤◌, ◌<◌, ◌^◌, Bool, true, false, cond, nat_le, nat_eq, List, [], ◌∷◌, ◌++◌, length, map, Option, Some, None, Result, Ok, Err, refl, sym, ap, ◌∙◌, append_assoc, subst}
+use Rattle.std.proofs.lemmas.List.{append-nil}
 use Rattle.std.specs.Fmt.{decimal}
 use Rattle.std.specs.Str.{bytes_eq}
 use Rattle.std.proofs.lemmas.Bool.{eqb-true, leb-true, le-leb}
@@ -135,10 +136,6 @@ pub record IsLine {W A : Type 0} (read : List (List ℕ) → Result A (LineFault
   pub clean : (x : A) → Fits x → AllFit IsClean (spell x)
   pub some : (x : A) → Fits x → IsNotEmpty (spell x)
 
-append_nil : {A : Type 0} (x : List A) → x ++ [] ≡ x
-append_nil [] = refl
-append_nil (y ∷ ys) = ap (λ (r : List _). y ∷ r) (append_nil ys)
-
 pub judge_ok : {W A : Type 0} (r : Option (Result A W × List (List ℕ))) (x : A) → judge r ≡ Ok x → r ≡ Some (Ok x, [])
 judge_ok None x e = absurd cc
 judge_ok {W} {A} (Some y) x e = go y.0 y.1 e
@@ -153,8 +150,8 @@ pub fit_line : {W A : Type 0} {read : List (List ℕ) → Option (Result A W × 
     → ((x : A) → Fits x → IsNotEmpty (spell x)) → IsFormat read spell Fits → IsLine (whole read) spell Fits
 unfolding whole
 fit_line {read = read} {spell = spell} some f = record {
-  found = λ ts x e. let g = f.found ts x [] (judge_ok (read ts) x e) in (g.0 ∙ append_nil (spell x), g.1);
-  again = λ x fits. let e : read (spell x) ≡ Some (Ok x, []) = ap read (sym (append_nil (spell x))) ∙ f.again x [] fits in rw e refl;
+  found = λ ts x e. let g = f.found ts x [] (judge_ok (read ts) x e) in (g.0 ∙ append-nil (spell x), g.1);
+  again = λ x fits. let e : read (spell x) ≡ Some (Ok x, []) = ap read (sym (append-nil (spell x))) ∙ f.again x [] fits in rw e refl;
   clean = f.clean;
   some = some;
 }

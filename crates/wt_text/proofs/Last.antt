@@ -1,5 +1,6 @@
 -- Readers that go to the end of a line.
 use Rattle.std.proofs.Common.{rules, arith, ◌≡◌, ◌⊎◌, inl, inr, ℕ, zero, suc, ◌+◌, ◌≤◌, ◌<◌, ◌^◌, Bool, true, false, cond, nat_le, nat_eq, List, [], ◌∷◌, ◌++◌, length, map, Option, Some, None, Result, Ok, Err, refl, sym, ap, ◌∙◌, append_assoc, subst, eq-eqb}
+use Rattle.std.proofs.lemmas.List.{append-nil}
 use Rattle.std.specs.Fmt.{decimal}
 use Rattle.std.specs.Str.{bytes_eq}
 use Rattle.std.proofs.lemmas.Bool.{eqb-true, leb-true, le-leb}
@@ -15,12 +16,8 @@ pub record IsLast {W A : Type 0} (read : List (List ℕ) → Option (Result A W 
   pub again : (x : A) → Fits x → read (spell x) ≡ Some (Ok x, [])
   pub clean : (x : A) → Fits x → AllFit IsClean (spell x)
 
-append_nil : {A : Type 0} (x : List A) → x ++ [] ≡ x
-append_nil [] = refl
-append_nil (y ∷ ys) = ap (λ (r : List _). y ∷ r) (append_nil ys)
-
 pub last_of : {W A : Type 0} {read : List (List ℕ) → Option (Result A W × List (List ℕ))} {spell : A → List (List ℕ)} {Fits : A → Type 0} → IsFormat read spell Fits → IsLast read spell Fits
-last_of {read = read} {spell = spell} f = record { found = f.found; again = λ x fits. ap read (sym (append_nil (spell x))) ∙ f.again x [] fits; clean = f.clean }
+last_of {read = read} {spell = spell} f = record { found = f.found; again = λ x fits. ap read (sym (append-nil (spell x))) ∙ f.again x [] fits; clean = f.clean }
 
 pub behind_last : {W A : Type 0} {read : List (List ℕ) → Option (Result A W × List (List ℕ))} {spell : A → List (List ℕ)} {Fits : A → Type 0} (w : List ℕ) → IsClean w
     → IsLast read spell Fits → IsLast (value_behind w read) (behind_spelling w spell) Fits
@@ -56,7 +53,7 @@ pub whole_last : {W A : Type 0} {read : List (List ℕ) → Option (Result A W �
     → ((x : A) → IsNotEmpty (spell x)) → IsLast read spell Fits → IsLine (whole read) spell Fits
 unfolding whole
 whole_last {read = read} {spell = spell} some f = record {
-  found = λ ts x e. let g = f.found ts x [] (judge_ok (read ts) x e) in (g.0 ∙ append_nil (spell x), g.1);
+  found = λ ts x e. let g = f.found ts x [] (judge_ok (read ts) x e) in (g.0 ∙ append-nil (spell x), g.1);
   again = λ x fits. rw (f.again x fits) refl;
   clean = f.clean;
   some = λ x fits. some x;
@@ -146,5 +143,5 @@ numbers_last {W} many kind most what small_many small = record {
         let le : length x ≤ many = omega (arith, size, same, w.0, w.1) in
         let spelled : t ≡ decimal n.0 = number_found t n.0 n.1 (omega (arith, size, same, le, small_many)) in
         let front : t ≡ decimal (length x) = spelled ∙ ap decimal (sym size ∙ same) in
-        let left : ts ≡ map decimal x ++ rest = h.0 ∙ sym (append_nil (map decimal x)) ∙ ap (λ (y : List (List ℕ)). map decimal x ++ y) p.1 in
+        let left : ts ≡ map decimal x ++ rest = h.0 ∙ sym (append-nil (map decimal x)) ∙ ap (λ (y : List (List ℕ)). map decimal x ++ y) p.1 in
         (cc, (le, h.1))

@@ -1,5 +1,6 @@
 -- Number tokens, both ways.
 use Rattle.std.proofs.Common.{rules, arith, ◌≡◌, ◌≢◌, ℕ, zero, suc, ◌-◌, ◌+◌, ◌*◌, ◌≤◌, ◌<◌, ◌^◌, List, [], ◌∷◌, ◌++◌, length, ◌||◌, ◌&&◌, get_or, Option, Some, None, Bool, true, false, cond, not, nat_lt, nat_eq, refl, sym, ap, ◌∙◌, subst}
+use Rattle.std.proofs.lemmas.Bool.{and_parts}
 use Rattle.std.specs.Char.{is_ascii_digit}
 use Rattle.std.specs.Fmt.{decimal}
 use Rattle.std.specs.Str.{all_ascii_digits}
@@ -26,15 +27,11 @@ lead_zero d n z e = grind (arith, nat_tests)
 no_lead : (d n : ℕ) → d ≢ 48 → not (nat_eq (suc (suc n)) 0 || (nat_lt 1 (suc (suc n)) && nat_eq d 48)) ≡ true
 no_lead d n z = grind (arith, nat_tests)
 
-both_true : (a b : Bool) → (a && b) ≡ true → (a ≡ true) × (b ≡ true)
-both_true true b e = (refl, e)
-both_true false b e = absurd cc
-
 plain_parts : (ds : List ℕ) → is_decimal ds ≡ true → (0 < length ds) × (get_or ds 0 0 ≡ 48 → length ds ≡ 1) × (all_ascii_digits ds ≡ true)
 plain_parts [] e = absurd cc
 plain_parts (d ∷ []) e = (omega arith, λ z. refl, e)
 plain_parts (d ∷ c ∷ ds) e =
-    let p = both_true (not (nat_eq (suc (suc (length ds))) 0 || (nat_lt 1 (suc (suc (length ds))) && nat_eq d 48))) (all_ascii_digits (d ∷ c ∷ ds)) e in
+    let p = and_parts (not (nat_eq (suc (suc (length ds))) 0 || (nat_lt 1 (suc (suc (length ds))) && nat_eq d 48))) (all_ascii_digits (d ∷ c ∷ ds)) e in
     (omega arith, λ z. absurd (lead_zero d (length ds) z p.0), p.1)
 
 -- a number that is read is spelled so
@@ -66,7 +63,7 @@ digit_is_clean b e = (grind (arith, nat_tests), grind (arith, nat_tests))
 
 digits_clean : (ds : List ℕ) → all_ascii_digits ds ≡ true → IsClean ds
 digits_clean [] e = tt
-digits_clean (d ∷ ds) e = let p = both_true (is_ascii_digit d) (all_ascii_digits ds) e in let q = digit_is_clean d p.0 in (q.0, q.1, digits_clean ds p.1)
+digits_clean (d ∷ ds) e = let p = and_parts (is_ascii_digit d) (all_ascii_digits ds) e in let q = digit_is_clean d p.0 in (q.0, q.1, digits_clean ds p.1)
 
 pub decimal_clean : (n : ℕ) → n < 2 ^ 64 → IsClean (decimal n)
 decimal_clean n small = digits_clean (decimal n) (digits_decimal own n small)

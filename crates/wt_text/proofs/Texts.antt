@@ -1,5 +1,6 @@
 -- Readers of a text put together.
 use Rattle.std.proofs.Common.{rules, arith, ◌≡◌, ℕ, zero, suc, ◌+◌, ◌≤◌, ◌<◌, Bool, true, false, cond, List, [], ◌∷◌, ◌++◌, length, Option, Some, None, Result, Ok, Err, refl, sym, ap, ◌∙◌, append_assoc, subst}
+use Rattle.std.proofs.lemmas.List.{append-nil}
 use Rattle.std.specs.List.{flat_map}
 use Rattle.wt_text.specs.Words.{tokens, spaced}
 use Rattle.wt_text.specs.Lines.{Line, line_of, lines, bytes_of}
@@ -151,10 +152,6 @@ pub record IsWhole {W A : Type 0} (read : List Line → Result A (TextFault W)) 
   pub found : (bytes : List ℕ) (x : A) → read (lines bytes) ≡ Ok x → (bytes ≡ bytes_of (spell x)) × Fits x
   pub again : (x : A) → Fits x → read (lines (bytes_of (spell x))) ≡ Ok x
 
-append_nil : {A : Type 0} (x : List A) → x ++ [] ≡ x
-append_nil [] = refl
-append_nil (y ∷ ys) = ap (λ (r : List _). y ∷ r) (append_nil ys)
-
 pub text_whole : {W A : Type 0} {read : ℕ × List Line → Result (A × (ℕ × List Line)) (TextFault W)} {spell : A → List Line} {Fits : A → Type 0} → IsPart read spell Fits → IsWhole (whole_text read) spell Fits
 unfolding whole_text
 text_whole {W} {A} {read} {spell} {Fits} f = record {
@@ -163,11 +160,11 @@ text_whole {W} {A} {read} {spell} {Fits} f = record {
       let h = at_end a.0.0 x a.0.1.0 a.0.1.1 a.2 in
       let g = f.found (1, lines bytes) a.0.0 a.0.1 a.1 in
       let P : A → Type 0 = λ y. (lines bytes ≡ spell y) × Fits y in
-      let k = subst P h.0 (g.0 ∙ ap (λ (r : List Line). spell a.0.0 ++ r) h.1 ∙ append_nil (spell a.0.0), g.1) in
+      let k = subst P h.0 (g.0 ∙ ap (λ (r : List Line). spell a.0.0 ++ r) h.1 ∙ append-nil (spell a.0.0), g.1) in
       (sym (bytes_lines bytes) ∙ ap bytes_of k.0, k.1);
   again = λ x fits.
       let a = f.again x 1 [] fits in
-      let e : lines (bytes_of (spell x)) ≡ spell x ++ [] = lines_again (spell x) (f.clean x fits) ∙ sym (append_nil (spell x)) in
+      let e : lines (bytes_of (spell x)) ≡ spell x ++ [] = lines_again (spell x) (f.clean x fits) ∙ sym (append-nil (spell x)) in
       rw (e, a.1) refl;
 }
   where

@@ -1,6 +1,6 @@
 -- Edges that are held once each.
 use Rattle.std.proofs.Common.{arith, length-append, ◌||◌, ◌≡◌, ◌≢◌, ◌⊎◌, ℕ, zero, suc, ◌<◌, ◌≤◌, Bool, true, false, List, [], ◌∷◌, ◌++◌, length, Contains, Option, Some, None, get_or, slice_get, refl, sym, ap, ◌∙◌, inl, inr, if◌then◌else◌, nat_eq, true≢false, not, IsTrue, ◌↔◌}
-use Rattle.std.proofs.lemmas.Bool.{cases_lt}
+use Rattle.std.proofs.lemmas.Bool.{cases_lt, or_right}
 use Rattle.std.proofs.lemmas.Bool.Decides.{nat_tests}
 use Rattle.std.proofs.lemmas.Option.{get_or_from_slice_get, slice_get_within}
 use Rattle.std.proofs.lemmas.Map.Keys.{apart_from_distinct}
@@ -44,14 +44,10 @@ not_held es e h = by (list_any (eq-value.it e) es) refl
     by true p = absurd (h (Contains-from_any {eq = eq-value.it} same_edge e es p))
     by false p = p
 
-either_true : (a b : Bool) → b ≡ true → (a || b) ≡ true
-either_true true b e = refl
-either_true false b e = e
-
 held_at : (es : List Edge) (e : Edge) (k : ℕ) → k < length es → get_or es k e ≡ e → list_any (eq-value.it e) es ≡ true
 held_at [] e k lt h = absurd (omega arith)
 held_at (x ∷ xs) e zero lt h = let f : eq-value.it e x ≡ true = rw h (own_edge e) in rw f refl
-held_at (x ∷ xs) e (suc k) lt h = either_true (eq-value.it e x) (list_any (eq-value.it e) xs) (held_at xs e k (omega arith) h)
+held_at (x ∷ xs) e (suc k) lt h = or_right (eq-value.it e x) (list_any (eq-value.it e) xs) (held_at xs e k (omega arith) h)
 
 pub held : (es : List Edge) (e : Edge) → Contains es e → list_any (eq-value.it e) es ≡ true
 held es e h = held_at es e h.0 h.1 h.2

@@ -3,7 +3,7 @@ use Rattle.std.proofs.Common.{arith, ◌≡◌, ◌⊎◌, ℕ, zero, suc, ◌+�
 use Rattle.wt_grid.specs.declared.axis.Axis.TheVariants.{One, Two}
 use Rattle.wt_grid.specs.declared.axis.Axis.{Axis}
 use Rattle.std.specs.Str.{bytes_eq}
-use Rattle.std.proofs.lemmas.Bool.{cases_lt}
+use Rattle.std.proofs.lemmas.Bool.{cases_lt, and_parts, not-true, or_right}
 use Rattle.std.proofs.lemmas.Bool.Decides.{nat_tests}
 use Rattle.std.proofs.lemmas.Option.{slice_get-get_or, slice_get_within, get_or_from_slice_get}
 use Rattle.std.proofs.lemmas.List.Elements.{Contains-append_left, Contains-append_right, Contains-append_cases}
@@ -14,10 +14,6 @@ use Rattle.wt_tile.specs.declared.tile.SetFault.TheVariants.{Empty, TooMany, NoC
 use Rattle.wt_tile.specs.Matching.{ahead, behind}
 use Rattle.std.proofs.lemmas.Slice.Eq.{bytes_eq-Decides}
 use Rattle.wt_tile.specs.Sets.{edges, names, IsNumbered, AllApart, IsTileSet, comes_in_order, come, colour_fault, colours, east_west, north_south, is_among, apart, same_tile, place_of, match_place, repeated, set_fault}
-
-both_true : (a b : Bool) → (a && b) ≡ true → (a ≡ true) × (b ≡ true)
-both_true true b e = (refl, e)
-both_true false b e = absurd (cc)
 
 -- Colours that come in order.
 
@@ -33,9 +29,9 @@ reach n (c ∷ cs) = reach (max n (c + 1)) cs
 
 in_order : (n named a b : ℕ) → comes_in_order n named a b ≡ true → (a ≤ n) × (a < named) × (b ≤ max n (a + 1)) × (b < named)
 in_order n named a b e =
-    let p = both_true (nat_le a n && nat_lt a named && nat_le b (max n (a + 1))) (nat_lt b named) e in
-    let q = both_true (nat_le a n && nat_lt a named) (nat_le b (max n (a + 1))) p.0 in
-    let r = both_true (nat_le a n) (nat_lt a named) q.0 in
+    let p = and_parts (nat_le a n && nat_lt a named && nat_le b (max n (a + 1))) (nat_lt b named) e in
+    let q = and_parts (nat_le a n && nat_lt a named) (nat_le b (max n (a + 1))) p.0 in
+    let r = and_parts (nat_le a n) (nat_lt a named) q.0 in
     (grind (arith, nat_tests, r.0), grind (arith, nat_tests, r.1), grind (arith, nat_tests, q.1), grind (arith, nat_tests, p.1))
 
 order_in : (n named a b : ℕ) → a ≤ n → a < named → b ≤ max n (a + 1) → b < named → comes_in_order n named a b ≡ true
@@ -57,7 +53,7 @@ goes i n1 n2 named1 named2 (t ∷ ts) e = by (comes_in_order n1 named1 t.east t.
         → Goes n1 named1 (edges One (t ∷ ts)) × Goes n2 named2 (edges Two (t ∷ ts))
     by true p rest =
         let r = rest (rw p at e) in
-        let q = both_true (comes_in_order n1 named1 t.east t.west) (comes_in_order n2 named2 t.north t.south) p in
+        let q = and_parts (comes_in_order n1 named1 t.east t.west) (comes_in_order n2 named2 t.north t.south) p in
         let a = in_order n1 named1 t.east t.west q.0 in
         let b = in_order n2 named2 t.north t.south q.1 in
         ((a.0, a.1, (a.2, a.3, r.0)), (b.0, b.1, (b.2, b.3, r.1)))
@@ -164,14 +160,10 @@ numbered_goes n named seen (c ∷ cs) below num all = (next, all c (head_in c cs
 
 -- Names that are apart.
 
-either_true : (a b : Bool) → b ≡ true → (a || b) ≡ true
-either_true true b e = refl
-either_true false b e = e
-
 among_at : (x : List ℕ) (ys : List (List ℕ)) (k : ℕ) → slice_get ys k ≡ Some x → is_among x ys ≡ true
 among_at x [] k e = absurd (let lt = slice_get_within [] k x e in omega arith)
 among_at x (y ∷ ys) zero e = let same : x ≡ y = cc in let t : bytes_eq x y ≡ true = (bytes_eq-Decides x y).1 same in rw t refl
-among_at x (y ∷ ys) (suc k) e = either_true (bytes_eq x y) (is_among x ys) (among_at x ys k e)
+among_at x (y ∷ ys) (suc k) e = or_right (bytes_eq x y) (is_among x ys) (among_at x ys k e)
 
 among_place : (x : List ℕ) (ys : List (List ℕ)) → is_among x ys ≡ true → (k : ℕ) × (slice_get ys k ≡ Some x)
 among_place x [] e = absurd (cc)
@@ -181,24 +173,20 @@ among_place x (y ∷ ys) e = by (bytes_eq x y) refl (λ h. among_place x ys h)
     by true p rest = let same : x ≡ y = (bytes_eq-Decides x y).0 p in (0, ap (λ (z : List ℕ). Some z) (sym same))
     by false p rest = let h : is_among x ys ≡ true = rw p at e in let r = rest h in (suc r.0, r.1)
 
-not_true : (b : Bool) → not b ≡ true → b ≡ false
-not_true true e = absurd (cc)
-not_true false e = refl
-
 names_apart : (xs : List (List ℕ)) → apart xs ≡ true → AllApart xs
 names_apart [] e i j x p q = absurd (let lt = slice_get_within [] i x p in omega arith)
 names_apart (y ∷ ys) e zero zero x p q = refl
 names_apart (y ∷ ys) e zero (suc j) x p q =
     let same : y ≡ x = cc in
-    let h = not_true (is_among y ys) (both_true (not (is_among y ys)) (apart ys) e).0 in
+    let h = not-true (is_among y ys) (and_parts (not (is_among y ys)) (apart ys) e).0 in
     let there : is_among y ys ≡ true = among_at y ys j (q ∙ ap (λ (z : List ℕ). Some z) (sym same)) in
     absurd (cc)
 names_apart (y ∷ ys) e (suc i) zero x p q =
     let same : y ≡ x = cc in
-    let h = not_true (is_among y ys) (both_true (not (is_among y ys)) (apart ys) e).0 in
+    let h = not-true (is_among y ys) (and_parts (not (is_among y ys)) (apart ys) e).0 in
     let there : is_among y ys ≡ true = among_at y ys i (p ∙ ap (λ (z : List ℕ). Some z) (sym same)) in
     absurd (cc)
-names_apart (y ∷ ys) e (suc i) (suc j) x p q = ap suc (names_apart ys (both_true (not (is_among y ys)) (apart ys) e).1 i j x p q)
+names_apart (y ∷ ys) e (suc i) (suc j) x p q = ap suc (names_apart ys (and_parts (not (is_among y ys)) (apart ys) e).1 i j x p q)
 
 apart_names : (xs : List (List ℕ)) → AllApart xs → apart xs ≡ true
 apart_names [] h = refl
@@ -215,9 +203,9 @@ tile_path u t p q r s = λ i. record { east = p i; north = q i; west = r i; sout
 
 tiles_equal : (u t : Tile) → same_tile u t ≡ true → u ≡ t
 tiles_equal u t e =
-    let a = both_true (nat_eq u.east t.east && nat_eq u.north t.north && nat_eq u.west t.west) (nat_eq u.south t.south) e in
-    let b = both_true (nat_eq u.east t.east && nat_eq u.north t.north) (nat_eq u.west t.west) a.0 in
-    let c = both_true (nat_eq u.east t.east) (nat_eq u.north t.north) b.0 in
+    let a = and_parts (nat_eq u.east t.east && nat_eq u.north t.north && nat_eq u.west t.west) (nat_eq u.south t.south) e in
+    let b = and_parts (nat_eq u.east t.east && nat_eq u.north t.north) (nat_eq u.west t.west) a.0 in
+    let c = and_parts (nat_eq u.east t.east) (nat_eq u.north t.north) b.0 in
     tile_path u t (grind (arith, nat_tests, c.0)) (grind (arith, nat_tests, c.1)) (grind (arith, nat_tests, b.1)) (grind (arith, nat_tests, a.1))
 
 own_tile : (t : Tile) → same_tile t t ≡ true

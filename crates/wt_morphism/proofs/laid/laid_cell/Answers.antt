@@ -10,4 +10,4 @@ at-tile-requires-clause-line c =
     let two = line_is_two c.args.m.now c.args.p.now in
     let i = (line_and_place c.args.m.now.axis c.args.x c.args.y).0 in
     let r = strands_within two 0 n i (rw (← c.requires.lines) c.requires.line) in
-    rw (c.turned-line.ensures, c.requires.lines) (subst (λ (k : ℕ). (strand_at (strands two 0 n) i).line < k) (let z : 0 + n ≡ n = omega arith in z) r)
+    rw (c.line_and_place-line.ensures, c.requires.lines) (subst (λ (k : ℕ). (strand_at (strands two 0 n) i).line < k) (let z : 0 + n ≡ n = omega arith in z) r)
