@@ -26,12 +26,12 @@ loop-tile-init t c =
       spent = rw c.new-children.ensures (omega arith);
     }
 
-pub loop-tile-preserved-then-not-fits : goal.loop-tile-preserved-then-not-fits
-loop-tile-preserved-then-not-fits t c = record {
+pub loop-tile-preserved-then-not-fits_cell : goal.loop-tile-preserved-then-not-fits_cell
+loop-tile-preserved-then-not-fits_cell t c = record {
   same = c.loop-tile.invariant.same;
   within = c.loop-tile.invariant.within;
   free = c.loop-tile.invariant.free;
-  made = skip c.args.tiles.now c.args.radius c.args.known.now (placed c.args.shape c.loop-tile.cells) (tree_at c.args.tiles.now c.args.radius c.args.known.now (c.args.depth - 1) (placed c.args.shape c.loop-tile.cells) c.from-at.result) (children_view c.loop-tile.children) _ c.from-at.result c.loop-tile.tile (length c.args.tiles.now) c.loop-tile-test.true (sym c.fits.ensures ∙ c.if-not-fits.true) c.loop-tile.invariant.made;
+  made = skip c.args.tiles.now c.args.radius c.args.known.now (placed c.args.shape c.loop-tile.cells) (tree_at c.args.tiles.now c.args.radius c.args.known.now (c.args.depth - 1) (placed c.args.shape c.loop-tile.cells) c.from-at.result) (children_view c.loop-tile.children) _ c.from-at.result c.loop-tile.tile (length c.args.tiles.now) c.loop-tile-test.true (sym c.fits_cell.ensures ∙ c.if-not-fits_cell.true) c.loop-tile.invariant.made;
   spent = c.loop-tile.invariant.spent;
 }
 
@@ -46,7 +46,7 @@ returns-in-Err-clause-spent t c = λ e.
     let whole = branched c.args.tiles.now c.args.radius c.args.known.now (placed c.args.shape c.args.cells.now) c.args.depth (c.args.depth - 1) c.from-at.result (omega arith) first best in
     let short : c.loop-tile.left < node_count (tree_within c.args.tiles.now c.args.radius c.args.known.now (c.args.depth - 1) (place (placed c.args.shape c.loop-tile.cells) c.from-at.result c.loop-tile.tile)) =
     c.in-Err.ensures.spent e in
-    let far = over c.args.tiles.now c.args.radius c.args.known.now (placed c.args.shape c.loop-tile.cells) (tree_at c.args.tiles.now c.args.radius c.args.known.now (c.args.depth - 1) (placed c.args.shape c.loop-tile.cells) c.from-at.result) (children_view c.loop-tile.children) _ c.from-at.result c.loop-tile.tile (length c.args.tiles.now) c.loop-tile.left c.args.budget c.loop-tile-test.true (sym c.fits.ensures ∙ c.if-not-fits.false) c.loop-tile.invariant.made c.loop-tile.invariant.spent short in
+    let far = over c.args.tiles.now c.args.radius c.args.known.now (placed c.args.shape c.loop-tile.cells) (tree_at c.args.tiles.now c.args.radius c.args.known.now (c.args.depth - 1) (placed c.args.shape c.loop-tile.cells) c.from-at.result) (children_view c.loop-tile.children) _ c.from-at.result c.loop-tile.tile (length c.args.tiles.now) c.loop-tile.left c.args.budget c.loop-tile-test.true (sym c.fits_cell.ensures ∙ c.if-not-fits_cell.false) c.loop-tile.invariant.made c.loop-tile.invariant.spent short in
     rw whole (subst (λ (cells : List (Option ℕ)). c.args.budget < 1 + count_in (branches_with (tree_at c.args.tiles.now c.args.radius c.args.known.now (c.args.depth - 1) (placed c.args.shape cells) c.from-at.result) (fitting c.args.tiles.now (placed c.args.shape cells) c.from-at.result))) c.loop-tile.invariant.same far)
 
 pub loop-tile-preserved : goal.loop-tile-preserved
@@ -55,7 +55,7 @@ loop-tile-preserved t c =
     let e : slice_set c.grow-grown.new.cells c.from-at.result None ≡ c.loop-tile.cells = back ∙ sym c.loop-tile.invariant.same in
     let grown = c.in-Ok.ensures.ok in
     let pushed : c.push.new.self ≡ c.loop-tile.children ++ (record { tile = c.loop-tile.tile; tree = c.in-Ok.tree }) ∷ [] = c.in-Ok-push.ensures.ok in
-    let made = take_on c.args.tiles.now c.args.radius c.args.known.now (placed c.args.shape c.loop-tile.cells) (tree_at c.args.tiles.now c.args.radius c.args.known.now (c.args.depth - 1) (placed c.args.shape c.loop-tile.cells) c.from-at.result) c.loop-tile.children (record { tile = c.loop-tile.tile; tree = c.in-Ok.tree }) _ c.from-at.result c.loop-tile.tile (length c.args.tiles.now) c.loop-tile-test.true (sym c.fits.ensures ∙ c.if-not-fits.false) refl grown.0 c.loop-tile.invariant.made in
+    let made = take_on c.args.tiles.now c.args.radius c.args.known.now (placed c.args.shape c.loop-tile.cells) (tree_at c.args.tiles.now c.args.radius c.args.known.now (c.args.depth - 1) (placed c.args.shape c.loop-tile.cells) c.from-at.result) c.loop-tile.children (record { tile = c.loop-tile.tile; tree = c.in-Ok.tree }) _ c.from-at.result c.loop-tile.tile (length c.args.tiles.now) c.loop-tile-test.true (sym c.fits_cell.ensures ∙ c.if-not-fits_cell.false) refl grown.0 c.loop-tile.invariant.made in
     record {
       same = back;
       within = rw e c.loop-tile.invariant.within;
