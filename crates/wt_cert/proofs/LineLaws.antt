@@ -21,8 +21,8 @@ use Rattle.wt_text.proofs.Formats.{IsFormat, IsLine, bind_some, read_is, pair_ok
 use Rattle.wt_text.proofs.Last.{IsLast, both_last, behind_last, whole_last, word_format, numbers_last}
 use Rattle.wt_cert.specs.LineForms.{small, radius, axis, side, alone_form, count_form, numbers_form, version_form, step_count, steps_form, marker_head, restrict_head, Head, kind_of_step, head_form, allowed_form, pair_form, may_cite, radius_in, refuted_form, lost_form, image_of, image_behind, image_in, image_form, end_form}
 use Rattle.wt_cert.specs.Spelling.{count_tokens, numbers_tokens, version_word, axis_digit, side_word, pair_tokens, radius_tokens, image_tokens}
-use Rattle.wt_cert.specs.Fits.{IsSmall, NumbersFit, PairFits, RadiusFits, ImageFits}
-use Rattle.wt_cert.specs.Trees.{tree_spelling, TreeFits}
+use Rattle.wt_cert.specs.Fits.{IsSmall, AreWritableNumbers, IsWritablePair, IsWritableRadius, IsWritableImage}
+use Rattle.wt_cert.specs.Trees.{tree_spelling, IsWritableTree}
 use Rattle.wt_cert.proofs.TreeLines.{tree_last}
 use Rattle.wt_cert.proofs.Joined.{given_format, first_format, FirstFits, either_format, either_spelling, EitherFits, same_format}
 
@@ -61,7 +61,7 @@ pub count_line : (w : List ℕ) → IsClean w → (most : ℕ) (what : What) →
 unfolding count_form
 count_line w c most what lt = whole_line (λ x. tt) (behind_format w c (number_format most what lt))
 
-pub numbers_line : (w : List ℕ) → IsClean w → IsLine (numbers_form w) (numbers_tokens w) NumbersFit
+pub numbers_line : (w : List ℕ) → IsClean w → IsLine (numbers_form w) (numbers_tokens w) AreWritableNumbers
 unfolding numbers_form
 numbers_line w c = whole_last (λ x. tt) (behind_last w c (numbers_last 256 Tiles 65535 Number (omega arith) (omega arith)))
 
@@ -149,24 +149,24 @@ pub allowed_line : (a : List ℕ) → IsClean a → IsLine (allowed_form a) (λ 
 unfolding allowed_form
 allowed_line a c = whole_line (λ x. tt) (behind_format (codes "allowed") (search rules) (behind_format a c (number_format 65536 Pairs (omega arith))))
 
-pub pair_line : IsLine pair_form pair_tokens PairFits
+pub pair_line : IsLine pair_form pair_tokens IsWritablePair
 unfolding pair_form
 pair_line = whole_line (λ x. tt) (both_format small_format small_format)
 
-radius_in_format : (version : Version) (r : ℕ) → IsFormat (radius_in version r) (radius_tokens version) (RadiusFits version r)
+radius_in_format : (version : Version) (r : ℕ) → IsFormat (radius_in version r) (radius_tokens version) (IsWritableRadius version r)
 radius_in_format versions.One r = given_format r
 radius_in_format versions.Two r = radius_format
 
 pub refuted_line : (version : Version) (r nodes : ℕ) → IsLine (refuted_form version r nodes) (λ x. axis_digit x.0 ∷ decimal x.1.0 ∷ decimal x.1.1.0 ∷ (radius_tokens version x.1.1.1.0 ++ tree_spelling x.1.1.1.1))
-    (λ x. Unit {0} × (IsSmall x.1.0 × (IsSmall x.1.1.0 × (RadiusFits version r x.1.1.1.0 × TreeFits (may_cite version) 90 nodes x.1.1.1.1))))
+    (λ x. Unit {0} × (IsSmall x.1.0 × (IsSmall x.1.1.0 × (IsWritableRadius version r x.1.1.1.0 × IsWritableTree (may_cite version) 90 nodes x.1.1.1.1))))
 unfolding refuted_form
 refuted_line version r nodes = whole_last (λ x. tt) (both_last axis_format (both_last small_format (both_last small_format (both_last (radius_in_format version r) (tree_last (may_cite version) nodes)))))
 
-pub lost_line : (nodes : ℕ) → IsLine (lost_form nodes) (λ x. decimal x.0 ∷ tree_spelling x.1) (λ x. IsSmall x.0 × TreeFits true 90 nodes x.1)
+pub lost_line : (nodes : ℕ) → IsLine (lost_form nodes) (λ x. decimal x.0 ∷ tree_spelling x.1) (λ x. IsSmall x.0 × IsWritableTree true 90 nodes x.1)
 unfolding lost_form
 lost_line nodes = whole_last (λ x. tt) (both_last small_format (tree_last true nodes))
 
-image_last : IsLast image_in image_tokens ImageFits
+image_last : IsLast image_in image_tokens IsWritableImage
 image_last = record { found = found; again = again; clean = clean }
   where
     one_is : (r : Result ℕ What) (x : Image) → mapped Single r ≡ Ok x → (u : ℕ) × (r ≡ Ok u) × (Single u ≡ x)
@@ -177,12 +177,12 @@ image_last = record { found = found; again = again; clean = clean }
     two_is (Ok u) x e = (u, refl, cc)
     two_is (Err w) x e = absurd cc
 
-    behind_first : (ts : List (List ℕ)) (u : Result ℕ What) (us : List (List ℕ)) (x : Image) (rest : List (List ℕ)) → small ts ≡ Some (u, us) → image_behind u us ≡ Some (Ok x, rest) → (ts ≡ image_tokens x ++ rest) × ImageFits x
+    behind_first : (ts : List (List ℕ)) (u : Result ℕ What) (us : List (List ℕ)) (x : Image) (rest : List (List ℕ)) → small ts ≡ Some (u, us) → image_behind u us ≡ Some (Ok x, rest) → (ts ≡ image_tokens x ++ rest) × IsWritableImage x
     behind_first ts u [] x rest s e =
         let p = read_is (mapped Single u) (Ok x) [] rest e in
         let o = one_is u x p.0 in
         let f = small_format.found ts o.0 [] (s ∙ ap (λ (r : Result ℕ What). Some (r, [])) o.1) in
-        let P : Image → Type 0 = λ y. (ts ≡ image_tokens y ++ rest) × ImageFits y in
+        let P : Image → Type 0 = λ y. (ts ≡ image_tokens y ++ rest) × IsWritableImage y in
         subst P o.2 (f.0 ∙ ap (λ (y : List (List ℕ)). decimal o.0 ∷ y) p.1, f.1)
     behind_first ts u (v ∷ us) x rest s e =
         let b = bind_some (small (v ∷ us)) _ (Ok x, rest) e in
@@ -191,20 +191,20 @@ image_last = record { found = found; again = again; clean = clean }
         let k = pair_ok u b.0.0 o.0 o.1 in
         let f = small_format.found ts o.0.0 (v ∷ us) (s ∙ ap (λ (r : Result ℕ What). Some (r, v ∷ us)) k.0) in
         let g = small_format.found (v ∷ us) o.0.1 rest (b.1 ∙ ap (λ (r : Result ℕ What). Some (r, b.0.1)) k.1 ∙ ap (λ (r : List (List ℕ)). Some (Ok o.0.1, r)) p.1) in
-        let P : Image → Type 0 = λ y. (ts ≡ image_tokens y ++ rest) × ImageFits y in
+        let P : Image → Type 0 = λ y. (ts ≡ image_tokens y ++ rest) × IsWritableImage y in
         subst P o.2 (f.0 ∙ ap (λ (y : List (List ℕ)). decimal o.0.0 ∷ y) g.0, (f.1, g.1))
 
-    found : (ts : List (List ℕ)) (x : Image) (rest : List (List ℕ)) → image_in ts ≡ Some (Ok x, rest) → (ts ≡ image_tokens x ++ rest) × ImageFits x
+    found : (ts : List (List ℕ)) (x : Image) (rest : List (List ℕ)) → image_in ts ≡ Some (Ok x, rest) → (ts ≡ image_tokens x ++ rest) × IsWritableImage x
     found ts x rest e = let u = bind_some (small ts) _ (Ok x, rest) e in behind_first ts u.0.0 u.0.1 x rest u.1 u.2
 
-    again : (x : Image) → ImageFits x → image_in (image_tokens x) ≡ Some (Ok x, [])
+    again : (x : Image) → IsWritableImage x → image_in (image_tokens x) ≡ Some (Ok x, [])
     again (Single u) le = rw (number_again u (omega (arith, le)), within_again 65535 Number u le) refl
     again (Double u v) fits =
         let a : u ≤ 65535 = fits.0 in
         let b : v ≤ 65535 = fits.1 in
         rw (number_again u (omega (arith, a)), number_again v (omega (arith, b)), within_again 65535 Number u a, within_again 65535 Number v b) refl
 
-    clean : (x : Image) → ImageFits x → AllFit IsClean (image_tokens x)
+    clean : (x : Image) → IsWritableImage x → AllFit IsClean (image_tokens x)
     clean (Single u) le = (decimal_clean u (omega (arith, le)), tt)
     clean (Double u v) fits = let a : u ≤ 65535 = fits.0 in let b : v ≤ 65535 = fits.1 in (decimal_clean u (omega (arith, a)), (decimal_clean v (omega (arith, b)), tt))
 
@@ -212,7 +212,7 @@ some_image : (x : Image) → IsNotEmpty (image_tokens x)
 some_image (Single u) = tt
 some_image (Double u v) = tt
 
-pub image_line : IsLine image_form image_tokens ImageFits
+pub image_line : IsLine image_form image_tokens IsWritableImage
 unfolding image_form
 image_line = whole_last some_image image_last
 

@@ -27,12 +27,12 @@ use Rattle.wt_text.proofs.Bounded.{bounded_part}
 use Rattle.wt_pattern.specs.TileRows.{no_state}
 use Rattle.wt_pattern.proofs.SetTexts.{tiles_law, listed_fits, fits_listed}
 use Rattle.wt_cert.specs.LineForms.{Head, may_cite}
-use Rattle.wt_cert.specs.Trees.{tree_spelling, TreeFits}
+use Rattle.wt_cert.specs.Trees.{tree_spelling, IsWritableTree}
 use Rattle.wt_cert.specs.Values.{tree_of}
 use Rattle.wt_cert.specs.Parts.{tiles_part, numbers_part, allowed_part, to_refuted, refuted_row, with_refuted, refuted_part, to_lost, lost_row, with_lost, lost_part, images_part, to_marker, marker_part, to_restrict, restrict_part, block_part, link_part, with_link, next_step, steps_part, to_loop, end_behind, end_part, to_chain, chain_part, cert_part}
 use Rattle.wt_cert.specs.Seen.{refuted_view, lost_view}
 use Rattle.wt_cert.specs.Spelling.{line, count_tokens, numbers_tokens, axis_digit, tiles_lines, allowed_lines, radius_tokens, refuted_tokens, refuted_lines, lost_tokens, lost_lines, images_lines, marker_lines, restrict_lines, link_lines, blocks_lines, end_lines, cert_lines}
-use Rattle.wt_cert.specs.Fits.{TilesFit, NumbersFit, PairFits, PairsFit, ImageFits, ImagesFit, RefutedFits, LostFits, RefutedListFits, LostListFits, LinkFits, EndFits, IsWritable}
+use Rattle.wt_cert.specs.Fits.{AreWritableTiles, AreWritableNumbers, IsWritablePair, AreWritablePairs, IsWritableImage, AreWritableImages, IsWritableRefutation, IsWritableLoss, AreWritableRefutations, AreWritableLosses, IsWritableLink, IsWritableEnd, IsWritable}
 use Rattle.wt_cert.proofs.Standing.{refutation_of_tree, refuted_again, lost_again}
 use Rattle.wt_cert.proofs.Joined.{seen_by, same_part, behind_part, none_part}
 use Rattle.wt_cert.proofs.LineLaws.{alone_line, count_line, numbers_line, version_line, steps_line, KindFits, kind_tokens, head_line, allowed_line, pair_line, refuted_line, lost_line, image_line, end_tokens, EndLineFits, end_line}
@@ -45,50 +45,50 @@ to_turn : {A : Type 0} (P : A → Type 0) (xs : List A) → AllFit P xs → FitI
 to_turn P [] fits = tt
 to_turn P (x ∷ xs) fits = (fits.0, to_turn P xs fits.1)
 
-tiles : (w : List ℕ) → IsClean w → IsPart (tiles_part w) (tiles_lines w) TilesFit
+tiles : (w : List ℕ) → IsClean w → IsPart (tiles_part w) (tiles_lines w) AreWritableTiles
 unfolding tiles_part
-tiles w c = same_part (tiles_lines w) TilesFit (λ list fits. (refl, record { few = fits.0; listed = (fits_listed list (length list.tiles) fits.1).1 })) (λ list fits. (fits.few, listed_fits list (length list.tiles) refl fits.listed))
+tiles w c = same_part (tiles_lines w) AreWritableTiles (λ list fits. (refl, record { few = fits.0; listed = (fits_listed list (length list.tiles) fits.1).1 })) (λ list fits. (fits.few, listed_fits list (length list.tiles) refl fits.listed))
     (behind_part (λ list. length list.tiles) (λ n list fits. (fits_listed list n fits).0) (line_part (count_line w c 256 Tiles (omega arith))) (λ n fits. tiles_law n))
 
-numbers : (w : List ℕ) → IsClean w → IsPart (numbers_part w) (line_spelling (numbers_tokens w)) NumbersFit
+numbers : (w : List ℕ) → IsClean w → IsPart (numbers_part w) (line_spelling (numbers_tokens w)) AreWritableNumbers
 unfolding numbers_part
 numbers w c = line_part (numbers_line w c)
 
-allowed : (a : List ℕ) → IsClean a → IsPart (allowed_part a) (allowed_lines a) PairsFit
+allowed : (a : List ℕ) → IsClean a → IsPart (allowed_part a) (allowed_lines a) AreWritablePairs
 unfolding allowed_part
-allowed a c = same_part (allowed_lines a) PairsFit (λ xs fits. (refl, (fits.0, from_turn PairFits xs fits.1))) (λ xs fits. (fits.0, to_turn PairFits xs fits.1))
+allowed a c = same_part (allowed_lines a) AreWritablePairs (λ xs fits. (refl, (fits.0, from_turn IsWritablePair xs fits.1))) (λ xs fits. (fits.0, to_turn IsWritablePair xs fits.1))
     (counted_part no_state (λ s. line_part pair_line) (line_part (allowed_line a c)) 0)
 
-images : IsPart images_part images_lines ImagesFit
+images : IsPart images_part images_lines AreWritableImages
 unfolding images_part
-images = same_part images_lines ImagesFit (λ xs fits. (refl, (fits.0, from_turn ImageFits xs fits.1))) (λ xs fits. (fits.0, to_turn ImageFits xs fits.1))
+images = same_part images_lines AreWritableImages (λ xs fits. (refl, (fits.0, from_turn IsWritableImage xs fits.1))) (λ xs fits. (fits.0, to_turn IsWritableImage xs fits.1))
     (counted_part no_state (λ s. line_part image_line) (line_part (count_line (codes "images") (search rules) 256 Tiles (omega arith))) 0)
 
-refuted_one : (version : Version) (r nodes : ℕ) → IsPart (refuted_row version r nodes) (line_spelling (refuted_tokens version)) (RefutedFits version r nodes)
+refuted_one : (version : Version) (r nodes : ℕ) → IsPart (refuted_row version r nodes) (line_spelling (refuted_tokens version)) (IsWritableRefutation version r nodes)
 unfolding refuted_row
-refuted_one version r nodes = seen_by to_refuted (line_spelling (refuted_tokens version)) (RefutedFits version r nodes)
+refuted_one version r nodes = seen_by to_refuted (line_spelling (refuted_tokens version)) (IsWritableRefutation version r nodes)
     (λ a fits.
     let same : a.1.1.1.1 ≡ refutation (tree_of a.1.1.1.1) = sym (refutation_of_tree a.1.1.1.1) in (
       ap (λ (t : Refutation). line_of (axis_digit a.0 ∷ decimal a.1.0 ∷ decimal a.1.1.0 ∷ (radius_tokens version a.1.1.1.0 ++ tree_spelling t)) ∷ []) same,
-      record { small_a = fits.1.0; small_b = fits.1.1.0; radius = fits.1.1.1.0; tree = subst (TreeFits (may_cite version) 90 nodes) same fits.1.1.1.1 },
+      record { small_a = fits.1.0; small_b = fits.1.1.0; radius = fits.1.1.1.0; tree = subst (IsWritableTree (may_cite version) 90 nodes) same fits.1.1.1.1 },
     ))
     (λ b fits. (refuted_view b, refuted_again b, (tt, (fits.small_a, (fits.small_b, (fits.radius, fits.tree))))))
     (line_part (refuted_line version r nodes))
 
-refuted_all : (version : Version) (r nodes : ℕ) → IsPart (refuted_part version r nodes) (refuted_lines version) (RefutedListFits version r nodes)
+refuted_all : (version : Version) (r nodes : ℕ) → IsPart (refuted_part version r nodes) (refuted_lines version) (AreWritableRefutations version r nodes)
 unfolding refuted_part
 refuted_all version r nodes = counted_part with_refuted (λ n. refuted_one version r n) (line_part (count_line (codes "refuted") (search rules) 131072 Pairs (omega arith))) nodes
 
-lost_one : (nodes : ℕ) → IsPart (lost_row nodes) (line_spelling lost_tokens) (LostFits nodes)
+lost_one : (nodes : ℕ) → IsPart (lost_row nodes) (line_spelling lost_tokens) (IsWritableLoss nodes)
 unfolding lost_row
-lost_one nodes = seen_by to_lost (line_spelling lost_tokens) (LostFits nodes)
+lost_one nodes = seen_by to_lost (line_spelling lost_tokens) (IsWritableLoss nodes)
     (λ a fits.
     let same : a.1 ≡ refutation (tree_of a.1) = sym (refutation_of_tree a.1) in
-    (ap (λ (t : Refutation). line_of (decimal a.0 ∷ tree_spelling t) ∷ []) same, record { small = fits.0; tree = subst (TreeFits true 90 nodes) same fits.1 }))
+    (ap (λ (t : Refutation). line_of (decimal a.0 ∷ tree_spelling t) ∷ []) same, record { small = fits.0; tree = subst (IsWritableTree true 90 nodes) same fits.1 }))
     (λ b fits. (lost_view b, lost_again b, (fits.small, fits.tree)))
     (line_part (lost_line nodes))
 
-lost_all : (nodes : ℕ) → IsPart (lost_part nodes) lost_lines (LostListFits nodes)
+lost_all : (nodes : ℕ) → IsPart (lost_part nodes) lost_lines (AreWritableLosses nodes)
 unfolding lost_part
 lost_all nodes = counted_part with_lost lost_one (line_part (count_line (codes "lost") (search rules) 256 Tiles (omega arith))) nodes
 
@@ -121,10 +121,10 @@ abbrev body_of : RawStep → Body
 body_of s = (s.fine, (s.coarse, (s.markers, (s.allowed1, (s.allowed2, (s.refuted, s.images))))))
 
 abbrev MarkerBody : Version → ℕ → ℕ → Body → Type 0
-MarkerBody version nodes r x = TilesFit x.0 × (TilesFit x.1.0 × (NumbersFit x.1.1.0 × (PairsFit x.1.1.1.0 × (PairsFit x.1.1.1.1.0 × (RefutedListFits version r nodes x.1.1.1.1.1.0 × ImagesFit x.1.1.1.1.1.1)))))
+MarkerBody version nodes r x = AreWritableTiles x.0 × (AreWritableTiles x.1.0 × (AreWritableNumbers x.1.1.0 × (AreWritablePairs x.1.1.1.0 × (AreWritablePairs x.1.1.1.1.0 × (AreWritableRefutations version r nodes x.1.1.1.1.1.0 × AreWritableImages x.1.1.1.1.1.1)))))
 
 abbrev RestrictBody : ℕ → TileList × (TileList × (List ℕ × List Lost)) → Type 0
-RestrictBody nodes x = TilesFit x.0 × (TilesFit x.1.0 × (NumbersFit x.1.1.0 × LostListFits nodes x.1.1.1))
+RestrictBody nodes x = AreWritableTiles x.0 × (AreWritableTiles x.1.0 × (AreWritableNumbers x.1.1.0 × AreWritableLosses nodes x.1.1.1))
 
 abbrev BodyFits : Version → ℕ → Head → RawLink → Type 0
 BodyFits version nodes (first head) (Marker s) = ((s.axis, (s.side, s.radius)) ≡ head) × MarkerBody version nodes head.1.1 (body_of s)
@@ -168,7 +168,7 @@ same_head version nodes (second r) (Marker s) fits = absurd fits
 same_head version nodes (second r) (Restrict s) fits = ap second fits.0
 
 to_link : (version : Version) (k nodes : ℕ) (b : RawLink) → KindFits version (head_of b) × BodyFits version nodes (head_of b) b
-    → (line_spelling (λ h. codes "step" ∷ decimal k ∷ kind_tokens h) (head_of b) ++ body_lines version b ≡ link_lines version k b) × LinkFits version nodes b
+    → (line_spelling (λ h. codes "step" ∷ decimal k ∷ kind_tokens h) (head_of b) ++ body_lines version b ≡ link_lines version k b) × IsWritableLink version nodes b
 unfolding marker_lines restrict_lines
 to_link version k nodes (Marker s) fits =
     let f = fits.1.1 in
@@ -176,14 +176,14 @@ to_link version k nodes (Marker s) fits =
 to_link versions.One k nodes (Restrict s) fits = absurd fits.0
 to_link versions.Two k nodes (Restrict s) fits = let f = fits.1.1 in (refl, record { radius = fits.0; fine = f.0; coarse = f.1.0; kept = f.1.1.0; lost = f.1.1.1 })
 
-from_link : (version : Version) (nodes : ℕ) (b : RawLink) → LinkFits version nodes b → KindFits version (head_of b) × BodyFits version nodes (head_of b) b
+from_link : (version : Version) (nodes : ℕ) (b : RawLink) → IsWritableLink version nodes b → KindFits version (head_of b) × BodyFits version nodes (head_of b) b
 from_link version nodes (Marker s) fits = (fits.radius, (refl, (fits.fine, (fits.coarse, (fits.markers, (fits.allowed1, (fits.allowed2, (fits.refuted, fits.images))))))))
 from_link versions.One nodes (Restrict s) fits = absurd fits
 from_link versions.Two nodes (Restrict s) fits = (fits.radius, (refl, (fits.fine, (fits.coarse, (fits.kept, fits.lost)))))
 
-link : (version : Version) (k nodes : ℕ) → k < 2 ^ 64 → IsPart (link_part version k nodes) (link_lines version k) (LinkFits version nodes)
+link : (version : Version) (k nodes : ℕ) → k < 2 ^ 64 → IsPart (link_part version k nodes) (link_lines version k) (IsWritableLink version nodes)
 unfolding link_part
-link version k nodes lt = same_part (link_lines version k) (LinkFits version nodes) (to_link version k nodes) (from_link version nodes)
+link version k nodes lt = same_part (link_lines version k) (IsWritableLink version nodes) (to_link version k nodes) (from_link version nodes)
     (behind_part head_of (same_head version nodes) (line_part (head_line version k lt)) (λ head fits. block version nodes head))
 
 -- ---- the steps
@@ -192,17 +192,17 @@ abbrev Can : ℕ × ℕ → ℕ → Type 0
 Can s n = s.0 + n ≤ 32
 
 abbrev StepsFit : Version → List RawLink → Type 0
-StepsFit version xs = ((length xs ≤ 32) × (1 ≤ length xs)) × FitInTurn (LinkFits version) with_link 0 xs
+StepsFit version xs = ((length xs ≤ 32) × (1 ≤ length xs)) × FitInTurn (IsWritableLink version) with_link 0 xs
 
 blocks_same : (version : Version) (k nodes : ℕ) (xs : List RawLink) → flat_in_turn (λ s x. link_lines version s.0 x) next_step (k, nodes) xs ≡ blocks_lines version k xs
 blocks_same version k nodes [] = refl
 blocks_same version k nodes (x ∷ xs) = ap (λ (y : List Line). link_lines version k x ++ y) (blocks_same version (k + 1) (with_link nodes x) xs)
 
-from_states : (version : Version) (k nodes : ℕ) (xs : List RawLink) → FitInTurn (λ s x. LinkFits version s.1 x) next_step (k, nodes) xs → FitInTurn (LinkFits version) with_link nodes xs
+from_states : (version : Version) (k nodes : ℕ) (xs : List RawLink) → FitInTurn (λ s x. IsWritableLink version s.1 x) next_step (k, nodes) xs → FitInTurn (IsWritableLink version) with_link nodes xs
 from_states version k nodes [] fits = tt
 from_states version k nodes (x ∷ xs) fits = (fits.0, from_states version (k + 1) (with_link nodes x) xs fits.1)
 
-to_states : (version : Version) (k nodes : ℕ) (xs : List RawLink) → FitInTurn (LinkFits version) with_link nodes xs → FitInTurn (λ s x. LinkFits version s.1 x) next_step (k, nodes) xs
+to_states : (version : Version) (k nodes : ℕ) (xs : List RawLink) → FitInTurn (IsWritableLink version) with_link nodes xs → FitInTurn (λ s x. IsWritableLink version s.1 x) next_step (k, nodes) xs
 to_states version k nodes [] fits = tt
 to_states version k nodes (x ∷ xs) fits = (fits.0, to_states version (k + 1) (with_link nodes x) xs fits.1)
 
@@ -239,7 +239,7 @@ abbrev EndRest : Either (Unit {0}) (ℕ × ℕ) → End → Type 0
 EndRest (first u) Open = u ≡ tt
 EndRest (first u) (Loop start renaming expansion) = ⊥
 EndRest (second x) Open = ⊥
-EndRest (second x) (Loop start renaming expansion) = ((start, expansion) ≡ x) × NumbersFit renaming
+EndRest (second x) (Loop start renaming expansion) = ((start, expansion) ≡ x) × AreWritableNumbers renaming
 
 end_body : (h : Either (Unit {0}) (ℕ × ℕ)) → EndLineFits h → IsPart (end_behind h) end_rest (EndRest h)
 end_body (first u) known = same_part end_rest (EndRest (first u)) to from (none_part Open)
@@ -253,7 +253,7 @@ end_body (first u) known = same_part end_rest (EndRest (first u)) to from (none_
     from (Loop start renaming expansion) fits = absurd fits
 end_body (second x) known = seen_by (to_loop x) end_rest (EndRest (second x)) (λ ns fits. (refl, (refl, fits))) back (numbers (codes "renaming") (search rules))
   where
-    back : (e : End) → EndRest (second x) e → (ns : List ℕ) × (to_loop x ns ≡ e) × NumbersFit ns
+    back : (e : End) → EndRest (second x) e → (ns : List ℕ) × (to_loop x ns ≡ e) × AreWritableNumbers ns
     back Open fits = absurd fits
     back (Loop start renaming expansion) fits = (renaming, ap (λ (y : ℕ × ℕ). to_loop y renaming) (sym fits.0), fits.1)
 
@@ -263,22 +263,22 @@ same_end (first u) (Loop start renaming expansion) fits = absurd fits
 same_end (second x) Open fits = absurd fits
 same_end (second x) (Loop start renaming expansion) fits = ap second fits.0
 
-end_all : IsPart end_part end_lines EndFits
+end_all : IsPart end_part end_lines IsWritableEnd
 unfolding end_part
-end_all = same_part end_lines EndFits to from (behind_part end_head same_end (line_part end_line) end_body)
+end_all = same_part end_lines IsWritableEnd to from (behind_part end_head same_end (line_part end_line) end_body)
   where
-    to : (e : End) → EndLineFits (end_head e) × EndRest (end_head e) e → (line_spelling end_tokens (end_head e) ++ end_rest e ≡ end_lines e) × EndFits e
+    to : (e : End) → EndLineFits (end_head e) × EndRest (end_head e) e → (line_spelling end_tokens (end_head e) ++ end_rest e ≡ end_lines e) × IsWritableEnd e
     to Open fits = (refl, tt)
     to (Loop start renaming expansion) fits = (refl, (fits.0.0, fits.0.1, fits.1.1))
 
-    from : (e : End) → EndFits e → EndLineFits (end_head e) × EndRest (end_head e) e
+    from : (e : End) → IsWritableEnd e → EndLineFits (end_head e) × EndRest (end_head e) e
     from Open fits = (refl, refl)
     from (Loop start renaming expansion) fits = ((fits.0, fits.1), (refl, fits.2))
 
 -- ---- a certificate, whole
 
 abbrev ChainFits : Version → RawChain → Type 0
-ChainFits version c = (c.version ≡ version) × (StepsFit version c.steps × EndFits c.end)
+ChainFits version c = (c.version ≡ version) × (StepsFit version c.steps × IsWritableEnd c.end)
 
 abbrev chain_rest : RawChain → List Line
 chain_rest c = steps_lines c.version c.steps ++ (end_lines c.end ++ line (codes "end" ∷ []))
@@ -288,7 +288,7 @@ unfolding chain_part
 chain version = seen_by (to_chain version) chain_rest (ChainFits version) (λ a fits. (refl, (refl, (fits.0, fits.1.0)))) back
     (both_part (steps version) (both_part end_all (line_part (alone_line (codes "end") (search rules)))))
   where
-    back : (c : RawChain) → ChainFits version c → (a : List RawLink × (End × Unit {0})) × (to_chain version a ≡ c) × (StepsFit version a.0 × (EndFits a.1.0 × (a.1.1 ≡ tt)))
+    back : (c : RawChain) → ChainFits version c → (a : List RawLink × (End × Unit {0})) × (to_chain version a ≡ c) × (StepsFit version a.0 × (IsWritableEnd a.1.0 × (a.1.1 ≡ tt)))
     back c fits = ((c.steps, (c.end, tt)), ap (λ (v : Version). to_chain v (c.steps, (c.end, tt))) (sym fits.0), (fits.1.0, (fits.1.1, refl)))
 
 pub certificate : IsPart cert_part cert_lines IsWritable

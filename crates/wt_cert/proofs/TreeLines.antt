@@ -10,7 +10,7 @@ use Rattle.wt_text.proofs.Numbers.{decimal_clean, if_some, is_decimal_again}
 use Rattle.wt_text.proofs.Formats.{clean_both, read_is}
 use Rattle.wt_text.proofs.Last.{IsLast}
 use Rattle.wt_refute.specs.Refutation.{Refutation, Branches, branch, cite, no_more, more, node_count}
-use Rattle.wt_cert.specs.Trees.{branch_count, axis_word, tree_spelling, branches_spelling, is_forest, is_tree, tree_in, found_tree, tree_to_end, TreeFits, BranchesFit}
+use Rattle.wt_cert.specs.Trees.{branch_count, axis_word, tree_spelling, branches_spelling, is_forest, is_tree, tree_in, found_tree, tree_to_end, IsWritableTree, AreWritableBranches}
 use Rattle.wt_cert.proofs.TreesFound.{tree_found}
 use Rattle.wt_cert.proofs.TreesAgain.{tree_again, forest_form, children_again, cites_again}
 
@@ -19,7 +19,7 @@ axis_clean One = (refl, refl, (refl, refl, tt))
 axis_clean Two = (refl, refl, (refl, refl, tt))
 
 mutual
-  tree_clean : (citing : Bool) (levels nodes : ℕ) (tree : Refutation) → TreeFits citing levels nodes tree → AllFit IsClean (tree_spelling tree)
+  tree_clean : (citing : Bool) (levels nodes : ℕ) (tree : Refutation) → IsWritableTree citing levels nodes tree → AllFit IsClean (tree_spelling tree)
   tree_clean citing zero nodes tree fits = absurd fits
   tree_clean citing (suc levels) nodes (cite cell axis) fits = let le : cell ≤ 65535 = fits.1 in (decimal_clean cell (omega (arith, le)), (axis_clean axis, tt))
   tree_clean citing (suc levels) nodes (branch cell branches) fits =
@@ -27,14 +27,14 @@ mutual
       let few : branch_count branches ≤ 256 = fits.2 in
       (decimal_clean cell (omega (arith, le)), (decimal_clean (branch_count branches) (omega (arith, few)), branches_clean citing levels (nodes + 1) branches fits.3))
 
-  branches_clean : (citing : Bool) (levels nodes : ℕ) (b : Branches) → BranchesFit citing levels nodes b → AllFit IsClean (branches_spelling b)
+  branches_clean : (citing : Bool) (levels nodes : ℕ) (b : Branches) → AreWritableBranches citing levels nodes b → AllFit IsClean (branches_spelling b)
   branches_clean citing levels nodes no_more fits = tt
   branches_clean citing levels nodes (more tile tree others) fits =
       let le : tile ≤ 65535 = fits.0 in
       (decimal_clean tile (omega (arith, le)), clean_both (tree_spelling tree) (branches_spelling others) (tree_clean citing levels nodes tree fits.1) (branches_clean citing levels (nodes + node_count tree) others fits.2))
 
 -- a tree alone has the form of a line
-whole_form : (citing : Bool) (levels nodes : ℕ) (tree : Refutation) → TreeFits citing levels nodes tree → is_tree citing (tree_spelling tree) ≡ true
+whole_form : (citing : Bool) (levels nodes : ℕ) (tree : Refutation) → IsWritableTree citing levels nodes tree → is_tree citing (tree_spelling tree) ≡ true
 whole_form citing zero nodes tree fits = absurd fits
 whole_form citing (suc levels) nodes (cite cell axis) fits =
     let le : cell ≤ 65535 = fits.1 in
@@ -46,7 +46,7 @@ whole_form citing (suc levels) nodes (branch cell branches) fits =
     rw (is_decimal_again cell (omega (arith, le)), children_again citing (branch_count branches) (omega (arith, few)))
     (ap (λ (m : ℕ). is_forest citing m (branches_spelling branches)) (sym z) ∙ ap (λ (l : List (List ℕ)). is_forest citing (0 + branch_count branches) l) (sym (append-nil (branches_spelling branches))) ∙ forest_form citing levels (nodes + 1) 0 branches [] fits.3)
 
-pub tree_last : (citing : Bool) (nodes : ℕ) → IsLast (tree_to_end citing nodes) tree_spelling (TreeFits citing 90 nodes)
+pub tree_last : (citing : Bool) (nodes : ℕ) → IsLast (tree_to_end citing nodes) tree_spelling (IsWritableTree citing 90 nodes)
 unfolding tree_to_end
 tree_last citing nodes = record {
   found = λ ts x rest e.

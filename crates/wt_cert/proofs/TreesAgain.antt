@@ -11,7 +11,7 @@ use Rattle.wt_line.specs.declared.faults.What.TheVariants.{Number}
 use Rattle.wt_text.specs.Words.{number, is_decimal}
 use Rattle.wt_text.proofs.Numbers.{number_again, is_decimal_again, decimal_digits}
 use Rattle.wt_refute.specs.Refutation.{Refutation, Branches, branch, cite, no_more, more, node_count}
-use Rattle.wt_cert.specs.Trees.{branch_count, axis_word, tree_spelling, branches_spelling, children, cites, ending, is_forest, limited, cell_in, branches_in, tree_in, TreeFits, BranchesFit}
+use Rattle.wt_cert.specs.Trees.{branch_count, axis_word, tree_spelling, branches_spelling, children, cites, ending, is_forest, limited, cell_in, branches_in, tree_in, IsWritableTree, AreWritableBranches}
 
 pub small_again : (what : What) (n : ℕ) → n ≤ 65535 → limited 65535 what (number (decimal n)) ≡ Ok n
 small_again what n le = rw (number_again n (omega arith), le-leb n 65535 le) refl
@@ -46,7 +46,7 @@ cites_again true Two e = refl
 cites_again false axis e = absurd cc
 
 mutual
-  pub tree_again : (citing : Bool) (levels nodes : ℕ) (tree : Refutation) (rest : List (List ℕ)) → TreeFits citing levels nodes tree → tree_in citing levels nodes (tree_spelling tree ++ rest) ≡ Ok (tree, rest)
+  pub tree_again : (citing : Bool) (levels nodes : ℕ) (tree : Refutation) (rest : List (List ℕ)) → IsWritableTree citing levels nodes tree → tree_in citing levels nodes (tree_spelling tree ++ rest) ≡ Ok (tree, rest)
   tree_again citing zero nodes tree rest fits = absurd fits
   tree_again citing (suc levels) nodes (branch cell branches) rest fits =
       let few : branch_count branches ≤ 256 = fits.2 in
@@ -57,7 +57,7 @@ mutual
       let c : cell_in nodes (decimal cell) ≡ Ok cell = cell_again nodes cell fits.0 fits.1 in
       rw (c, cites_again citing axis fits.2) refl
 
-  pub branches_again : (citing : Bool) (levels nodes : ℕ) (b : Branches) (rest : List (List ℕ)) → BranchesFit citing levels nodes b → branches_in (tree_in citing levels) (branch_count b) nodes (branches_spelling b ++ rest) ≡ Ok (b, rest)
+  pub branches_again : (citing : Bool) (levels nodes : ℕ) (b : Branches) (rest : List (List ℕ)) → AreWritableBranches citing levels nodes b → branches_in (tree_in citing levels) (branch_count b) nodes (branches_spelling b ++ rest) ≡ Ok (b, rest)
   branches_again citing levels nodes no_more rest fits = refl
   branches_again citing levels nodes (more tile tree others) rest fits =
       rw (small_again Number tile fits.0, append_assoc (tree_spelling tree) (branches_spelling others) rest, tree_again citing levels nodes tree (branches_spelling others ++ rest) fits.1, branches_again citing levels (nodes + node_count tree) others rest fits.2) refl
@@ -65,7 +65,7 @@ mutual
 -- ---- its form
 
 mutual
-  pub forest_form : (citing : Bool) (levels nodes n : ℕ) (b : Branches) (rest : List (List ℕ)) → BranchesFit citing levels nodes b → is_forest citing (n + branch_count b) (branches_spelling b ++ rest) ≡ is_forest citing n rest
+  pub forest_form : (citing : Bool) (levels nodes n : ℕ) (b : Branches) (rest : List (List ℕ)) → AreWritableBranches citing levels nodes b → is_forest citing (n + branch_count b) (branches_spelling b ++ rest) ≡ is_forest citing n rest
   forest_form citing levels nodes n no_more rest fits = ap (λ (m : ℕ). is_forest citing m rest) (omega arith)
   forest_form citing levels nodes n (more tile tree others) rest fits =
       let le : tile ≤ 65535 = fits.0 in
@@ -73,7 +73,7 @@ mutual
       let d : is_decimal (decimal tile) ≡ true = is_decimal_again tile (omega (arith, le)) in
       rw (k, append_assoc (tree_spelling tree) (branches_spelling others) rest) (one_form citing levels nodes (n + branch_count others) tree (decimal tile) (branches_spelling others ++ rest) d fits.1 ∙ forest_form citing levels (nodes + node_count tree) n others rest fits.2)
 
-  pub one_form : (citing : Bool) (levels nodes n : ℕ) (tree : Refutation) (tile : List ℕ) (rest : List (List ℕ)) → is_decimal tile ≡ true → TreeFits citing levels nodes tree → is_forest citing (suc n) (tile ∷ (tree_spelling tree ++ rest)) ≡ is_forest citing n rest
+  pub one_form : (citing : Bool) (levels nodes n : ℕ) (tree : Refutation) (tile : List ℕ) (rest : List (List ℕ)) → is_decimal tile ≡ true → IsWritableTree citing levels nodes tree → is_forest citing (suc n) (tile ∷ (tree_spelling tree ++ rest)) ≡ is_forest citing n rest
   one_form citing zero nodes n tree tile rest d fits = absurd fits
   one_form citing (suc levels) nodes n (cite cell axis) tile rest d fits =
       let le : cell ≤ 65535 = fits.1 in

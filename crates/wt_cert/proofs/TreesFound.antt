@@ -12,7 +12,7 @@ use Rattle.wt_text.specs.Readers.{LineFault, past}
 use Rattle.wt_text.proofs.Numbers.{number_found}
 use Rattle.wt_text.proofs.Texts.{then_ok, ok_is, ok_pair}
 use Rattle.wt_refute.specs.Refutation.{Refutation, Branches, branch, cite, no_more, more, node_count}
-use Rattle.wt_cert.specs.Trees.{branch_count, axis_word, tree_spelling, branches_spelling, Ending, children, cites, ending, limited, cell_in, ending_in, branches_in, grown, tree_in, TreeFits, BranchesFit}
+use Rattle.wt_cert.specs.Trees.{branch_count, axis_word, tree_spelling, branches_spelling, Ending, children, cites, ending, limited, cell_in, ending_in, branches_in, grown, tree_in, IsWritableTree, AreWritableBranches}
 
 pub limited_ok : (most : ℕ) (what : What) (r : Option ℕ) (x : ℕ) → limited most what r ≡ Ok x → (r ≡ Some x) × (x ≤ most)
 limited_ok most what None x e = absurd cc
@@ -80,13 +80,13 @@ ending_found citing t e h = first (citing && bytes_eq t (codes "c1")) refl (citi
 
 -- a reader of trees that gives what is spelled so, and fits
 pub record FindsTrees (citing : Bool) (levels : ℕ) (read : ℕ → List (List ℕ) → Result (Refutation × List (List ℕ)) (LineFault What)) : Type 0 where
-  pub finds : (nodes : ℕ) (ts : List (List ℕ)) (tree : Refutation) (rest : List (List ℕ)) → read nodes ts ≡ Ok (tree, rest) → (ts ≡ tree_spelling tree ++ rest) × TreeFits citing levels nodes tree
+  pub finds : (nodes : ℕ) (ts : List (List ℕ)) (tree : Refutation) (rest : List (List ℕ)) → read nodes ts ≡ Ok (tree, rest) → (ts ≡ tree_spelling tree ++ rest) × IsWritableTree citing levels nodes tree
 
 branches_found : (citing : Bool) (levels : ℕ) (read : ℕ → List (List ℕ) → Result (Refutation × List (List ℕ)) (LineFault What)) → FindsTrees citing levels read
-    → (n nodes : ℕ) (ts : List (List ℕ)) (b : Branches) (rest : List (List ℕ)) → branches_in read n nodes ts ≡ Ok (b, rest) → (ts ≡ branches_spelling b ++ rest) × BranchesFit citing levels nodes b × (branch_count b ≡ n)
+    → (n nodes : ℕ) (ts : List (List ℕ)) (b : Branches) (rest : List (List ℕ)) → branches_in read n nodes ts ≡ Ok (b, rest) → (ts ≡ branches_spelling b ++ rest) × AreWritableBranches citing levels nodes b × (branch_count b ≡ n)
 branches_found citing levels read f zero nodes ts b rest e =
     let p = ok_pair no_more b ts rest e in
-    let P : Branches → Type 0 = λ y. (ts ≡ branches_spelling y ++ rest) × BranchesFit citing levels nodes y × (branch_count y ≡ 0) in
+    let P : Branches → Type 0 = λ y. (ts ≡ branches_spelling y ++ rest) × AreWritableBranches citing levels nodes y × (branch_count y ≡ 0) in
     subst P p.0 (p.1, tt, refl)
 branches_found citing levels read f (suc n) nodes [] b rest e = absurd cc
 branches_found citing levels read f (suc n) nodes (tile ∷ ts) b rest e =
@@ -97,7 +97,7 @@ branches_found citing levels read f (suc n) nodes (tile ∷ ts) b rest e =
     let s = small_found Number tile t.0 t.1 in
     let one = f.finds nodes ts x.0.0 x.0.1 x.1 in
     let others = branches_found citing levels read f n (nodes + node_count x.0.0) x.0.1 m.0.0 rest (m.1 ∙ ap (λ (y : List (List ℕ)). Ok (m.0.0, y)) p.1) in
-    let P : Branches → Type 0 = λ y. (tile ∷ ts ≡ branches_spelling y ++ rest) × BranchesFit citing levels nodes y × (branch_count y ≡ suc n) in
+    let P : Branches → Type 0 = λ y. (tile ∷ ts ≡ branches_spelling y ++ rest) × AreWritableBranches citing levels nodes y × (branch_count y ≡ suc n) in
     let tail : ts ≡ (tree_spelling x.0.0 ++ branches_spelling m.0.0) ++ rest = one.0 ∙ ap (λ (y : List (List ℕ)). tree_spelling x.0.0 ++ y) others.0 ∙ sym (append_assoc (tree_spelling x.0.0) (branches_spelling m.0.0) rest) in
     let front : tile ≡ decimal t.0 = s.0 in
     subst P p.0 (cc, (s.1, one.1, others.1), ap suc others.2)
@@ -112,10 +112,10 @@ tree_found citing (suc levels) = record { finds = go (tree_found citing levels) 
   where
     reads : (read : ℕ → List (List ℕ) → Result (Refutation × List (List ℕ)) (LineFault What)) → FindsTrees citing levels read → (nodes c : ℕ) (e : Ending) (cell count : List ℕ) (ts : List (List ℕ)) (tree : Refutation) (rest : List (List ℕ))
         → (nodes < 1048576) × (cell ≡ decimal c) × (c ≤ 65535) → (count ≡ ending_spelling e) × EndingFits citing e → grown read c (nodes + 1) ts e ≡ Ok (tree, rest)
-        → (cell ∷ count ∷ ts ≡ tree_spelling tree ++ rest) × TreeFits citing (suc levels) nodes tree
+        → (cell ∷ count ∷ ts ≡ tree_spelling tree ++ rest) × IsWritableTree citing (suc levels) nodes tree
     reads read f nodes c (cites axis) cell count ts tree rest s k h =
         let p = ok_pair (cite c axis) tree ts rest h in
-        let P : Refutation → Type 0 = λ y. (cell ∷ count ∷ ts ≡ tree_spelling y ++ rest) × TreeFits citing (suc levels) nodes y in
+        let P : Refutation → Type 0 = λ y. (cell ∷ count ∷ ts ≡ tree_spelling y ++ rest) × IsWritableTree citing (suc levels) nodes y in
         let front : cell ≡ decimal c = s.1 in
         let word : count ≡ axis_word axis = k.0 in
         let left : ts ≡ rest = p.1 in
@@ -124,7 +124,7 @@ tree_found citing (suc levels) = record { finds = go (tree_found citing levels) 
         let b = then_ok (branches_in read n (nodes + 1) ts) _ (tree, rest) h in
         let p = ok_pair (branch c b.0.0) tree b.0.1 rest b.2 in
         let g = branches_found citing levels read f n (nodes + 1) ts b.0.0 rest (b.1 ∙ ap (λ (y : List (List ℕ)). Ok (b.0.0, y)) p.1) in
-        let P : Refutation → Type 0 = λ y. (cell ∷ count ∷ ts ≡ tree_spelling y ++ rest) × TreeFits citing (suc levels) nodes y in
+        let P : Refutation → Type 0 = λ y. (cell ∷ count ∷ ts ≡ tree_spelling y ++ rest) × IsWritableTree citing (suc levels) nodes y in
         let front : cell ≡ decimal c = s.1 in
         let word : count ≡ decimal (branch_count b.0.0) = k.0 ∙ ap decimal (sym g.2) in
         let left : ts ≡ branches_spelling b.0.0 ++ rest = g.0 in
@@ -132,7 +132,7 @@ tree_found citing (suc levels) = record { finds = go (tree_found citing levels) 
         subst P p.0 (cc, (s.0, s.2, few, g.1))
 
     go : FindsTrees citing levels (tree_in citing levels) → (nodes : ℕ) (ts : List (List ℕ)) (tree : Refutation) (rest : List (List ℕ))
-        → tree_in citing (suc levels) nodes ts ≡ Ok (tree, rest) → (ts ≡ tree_spelling tree ++ rest) × TreeFits citing (suc levels) nodes tree
+        → tree_in citing (suc levels) nodes ts ≡ Ok (tree, rest) → (ts ≡ tree_spelling tree ++ rest) × IsWritableTree citing (suc levels) nodes tree
     go f nodes [] tree rest e = absurd cc
     go f nodes (cell ∷ []) tree rest e = absurd cc
     go f nodes (cell ∷ count ∷ ts) tree rest e =

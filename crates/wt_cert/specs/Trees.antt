@@ -111,11 +111,11 @@ tree_to_end citing nodes ts = if is_tree citing ts then found_tree (tree_in citi
 
 -- trees within the limits: at most so many levels, and at most 1,048,576 nodes with those that came before
 abbrev mutual
-  pub TreeFits : Bool → ℕ → ℕ → Refutation → Type 0
-  TreeFits citing zero nodes tree = ⊥
-  TreeFits citing (suc levels) nodes (branch cell branches) = (nodes < 1048576) × (cell ≤ 65535) × (branch_count branches ≤ 256) × BranchesFit citing levels (nodes + 1) branches
-  TreeFits citing (suc levels) nodes (cite cell axis) = (nodes < 1048576) × (cell ≤ 65535) × (citing ≡ true)
+  pub IsWritableTree : Bool → ℕ → ℕ → Refutation → Type 0
+  IsWritableTree citing zero nodes tree = ⊥
+  IsWritableTree citing (suc levels) nodes (branch cell branches) = (nodes < 1048576) × (cell ≤ 65535) × (branch_count branches ≤ 256) × AreWritableBranches citing levels (nodes + 1) branches
+  IsWritableTree citing (suc levels) nodes (cite cell axis) = (nodes < 1048576) × (cell ≤ 65535) × (citing ≡ true)
 
-  pub BranchesFit : Bool → ℕ → ℕ → Branches → Type 0
-  BranchesFit citing levels nodes no_more = Unit {0}
-  BranchesFit citing levels nodes (more tile tree others) = (tile ≤ 65535) × TreeFits citing levels nodes tree × BranchesFit citing levels (nodes + node_count tree) others
+  pub AreWritableBranches : Bool → ℕ → ℕ → Branches → Type 0
+  AreWritableBranches citing levels nodes no_more = Unit {0}
+  AreWritableBranches citing levels nodes (more tile tree others) = (tile ≤ 65535) × IsWritableTree citing levels nodes tree × AreWritableBranches citing levels (nodes + node_count tree) others

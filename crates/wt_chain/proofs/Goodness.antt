@@ -19,21 +19,21 @@ use Rattle.wt_chain.specs.declared.raw.Refusal.TheVariants.{Renaming, Expansion}
 use Rattle.wt_chain.specs.Sets.{last_set, AreLinked, IsRun}
 use Rattle.wt_chain.specs.Growth.{turn_stages, has_grown}
 use Rattle.wt_chain.specs.Faults.{unless, steps_fault_from, steps_fault, growth_fault_at, growth_fault, loop_fault, end_fault, chain_fault}
-use Rattle.wt_chain.specs.Good.{Grows, GoodLoop, GoodEnd, GoodChain}
+use Rattle.wt_chain.specs.Good.{HasGrown, IsGoodLoop, IsGoodEnd, IsGoodChain}
 use Rattle.wt_chain.proofs.Run.{run_from, equal_same_set}
 use Rattle.wt_chain.proofs.Turned.{wide, high}
 use Rattle.wt_chain.proofs.Good.{Parts, parts, no_fault, holds}
 
 -- Growth.
 
-grows : (loop : List RawLink) (renaming : List ℕ) (n t : ℕ) → has_grown loop renaming n t ≡ true → Grows loop renaming n t
+grows : (loop : List RawLink) (renaming : List ℕ) (n t : ℕ) → has_grown loop renaming n t ≡ true → HasGrown loop renaming n t
 grows loop renaming n t e =
     let b = and_parts (nat_le 2 (width (turn_stages One loop renaming n) t)) (nat_le 2 (width (turn_stages Two loop renaming n) t)) e in
     let w : 2 ≤ width (turn_stages One loop renaming n) t = grind (arith, nat_tests, b.0) in
     let h : 2 ≤ width (turn_stages Two loop renaming n) t = grind (arith, nat_tests, b.1) in
     record { wide = omega (arith, wide loop renaming n t); high = omega (arith, high loop renaming n t) }
 
-grown : (loop : List RawLink) (renaming : List ℕ) (n t : ℕ) → Grows loop renaming n t → has_grown loop renaming n t ≡ true
+grown : (loop : List RawLink) (renaming : List ℕ) (n t : ℕ) → HasGrown loop renaming n t → has_grown loop renaming n t ≡ true
 grown loop renaming n t g =
     let w : 2 ≤ width (turn_stages One loop renaming n) t = let s = g.wide in omega (arith, wide loop renaming n t) in
     let h : 2 ≤ width (turn_stages Two loop renaming n) t = let s = g.high in omega (arith, high loop renaming n t) in
@@ -43,7 +43,7 @@ grown loop renaming n t g =
 
 -- Loops.
 
-loop_good : (loop : List RawLink) (rs : List ℕ) (n : ℕ) → loop_fault loop rs n ≡ None → GoodLoop loop rs n
+loop_good : (loop : List RawLink) (rs : List ℕ) (n : ℕ) → loop_fault loop rs n ≡ None → IsGoodLoop loop rs n
 loop_good [] rs n e = absurd cc
 loop_good (link ∷ links) rs n e =
     let p = neither (option_map Renaming (renaming_fault (last_set (coarse_of link) links).tiles (fine_of link).tiles rs)) (growth_fault (link ∷ links) rs n (length (fine_of link).tiles)) e in (
@@ -52,18 +52,18 @@ loop_good (link ∷ links) rs n e =
           (none_from (growth_fault_at (link ∷ links) rs n) 0 (length (fine_of link).tiles) t p.1 (omega arith) (omega arith))),
     )
 
-good_loop : (loop : List RawLink) (rs : List ℕ) (n : ℕ) → GoodLoop loop rs n → loop_fault loop rs n ≡ None
+good_loop : (loop : List RawLink) (rs : List ℕ) (n : ℕ) → IsGoodLoop loop rs n → loop_fault loop rs n ≡ None
 good_loop [] rs n h = absurd h
 good_loop (link ∷ links) rs n h =
     rw (right (last_set (coarse_of link) links).tiles (fine_of link).tiles rs h.0)
     (all_none (growth_fault_at (link ∷ links) rs n) 0 (length (fine_of link).tiles)
     (λ t lo hi. rw (grown (link ∷ links) rs n t (h.1 t (omega arith))) refl))
 
-end_good : (links : List RawLink) (end : End) → end_fault links end ≡ None → GoodEnd links end
+end_good : (links : List RawLink) (end : End) → end_fault links end ≡ None → IsGoodEnd links end
 end_good links Open e = tt
 end_good links (Loop start rs n) e = loop_good (drop start links) rs n e
 
-good_end : (links : List RawLink) (end : End) → GoodEnd links end → end_fault links end ≡ None
+good_end : (links : List RawLink) (end : End) → IsGoodEnd links end → end_fault links end ≡ None
 good_end links Open h = refl
 good_end links (Loop start rs n) h = good_loop (drop start links) rs n h
 
@@ -80,9 +80,9 @@ run_none (link ∷ links) h = rw h.0 (linked_none 1 (coarse_of link) links h.2)
 
 -- Chains.
 
-pub good : (c : RawChain) → chain_fault c ≡ None → GoodChain c
+pub good : (c : RawChain) → chain_fault c ≡ None → IsGoodChain c
 good c e = let p = parts c e in
     record { some = p.some; few = p.few; version = p.version; run = run_from c.steps p.steps; end = end_good c.steps c.end p.end }
 
-pub back : (c : RawChain) → GoodChain c → chain_fault c ≡ None
+pub back : (c : RawChain) → IsGoodChain c → chain_fault c ≡ None
 back c g = no_fault c (record { some = g.some; few = g.few; version = g.version; steps = run_none c.steps g.run; end = good_end c.steps c.end g.end })

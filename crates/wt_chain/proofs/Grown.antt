@@ -28,7 +28,7 @@ use Rattle.wt_step.specs.Faults.{unless, step_fault}
 use Rattle.wt_step.specs.Restrict.{kept_fit, sorting_fault, use_fault, restrict_fault}
 use Rattle.wt_step.specs.Links.{link_fault, fine_of, coarse_of}
 use Rattle.wt_step.proofs.Goodness.{good_step}
-use Rattle.wt_chain.specs.Sets.{AreLinked, last_set, first_count, Closes}
+use Rattle.wt_chain.specs.Sets.{AreLinked, last_set, first_count, IsClosedBy}
 use Rattle.wt_chain.specs.Growth.{image_of, is_along, stage, stages, origin_from, origin, renaming_stage, turn, turn_stages}
 use Rattle.wt_bijection.specs.Renaming.{renaming_fault}
 use Rattle.wt_bijection.proofs.Lengths.{no_fault}
@@ -188,7 +188,7 @@ small_is_fault link links renaming n h e =
     first_same (small_at (turns_table One (link ∷ links) renaming n) (turns_table Two (link ∷ links) renaming n)) (growth_fault_at (link ∷ links) renaming n) 0 (length (fine_of link).tiles)
     (λ k lo hi. let w = wide.tells k (omega arith) in let t = high.tells k (omega arith) in rw (w, t) refl)
 
-pub growth_is_fault : (loop : List RawLink) (renaming : List ℕ) (turn_stages : ℕ) → Closes loop renaming
+pub growth_is_fault : (loop : List RawLink) (renaming : List ℕ) (turn_stages : ℕ) → IsClosedBy loop renaming
     → first_small (turns_table One loop renaming turn_stages) (turns_table Two loop renaming turn_stages) (first_count loop) ≡ growth_fault loop renaming turn_stages (first_count loop)
 growth_is_fault [] renaming turn_stages h = absurd h
 growth_is_fault (link ∷ links) renaming turn_stages h = small_is_fault link links renaming turn_stages h.0 h.1

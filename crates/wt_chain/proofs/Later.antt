@@ -21,7 +21,7 @@ use Rattle.wt_step.specs.declared.raw.RawLink.{RawLink}
 use Rattle.wt_step.specs.Links.{fine_of, coarse_of}
 use Rattle.wt_chain.specs.declared.raw.Refusal.{Refusal}
 use Rattle.wt_chain.specs.declared.raw.Refusal.TheVariants.{Expansion}
-use Rattle.wt_chain.specs.Sets.{AreLinked, last_set, first_count, Closes}
+use Rattle.wt_chain.specs.Sets.{AreLinked, last_set, first_count, IsClosedBy}
 use Rattle.wt_chain.specs.Growth.{image_of, is_along, stage, stages, origin, renaming_stage, turn, turn_stages, has_grown}
 use Rattle.wt_chain.specs.Faults.{unless, growth_fault_at, growth_fault, enough, least_expansion}
 use Rattle.wt_chain.proofs.Grown.{first_fits, fine_good, step_some, origin_below, first_same}
@@ -99,7 +99,7 @@ follow_below set (link ∷ links) u h lt =
     rw (← h.1) f
 
 -- the images that ever grow have grown after so many turns
-long_ever : (axis : Axis) (loop : List RawLink) (renaming : List ℕ) → Closes loop renaming → (e m t : ℕ) → first_count loop ≤ m → t < first_count loop
+long_ever : (axis : Axis) (loop : List RawLink) (renaming : List ℕ) → IsClosedBy loop renaming → (e m t : ℕ) → first_count loop ≤ m → t < first_count loop
     → long axis loop renaming e t ≡ true → long axis loop renaming m t ≡ true
 long_ever axis [] renaming h e m t le lt l = absurd h
 long_ever axis (link ∷ links) renaming h e m t le lt l =
@@ -113,7 +113,7 @@ long_ever axis (link ∷ links) renaming h e m t le lt l =
         follow_below (fine_of link) (link ∷ links) (origin renaming u) h.0 (origin_below 0 renaming u (length (last_set (coarse_of link) links).tiles) (omega arith) (omega arith))
 
 -- where some number of turns is enough, so is each from the number of tiles on
-pub enough_later : (loop : List RawLink) (renaming : List ℕ) → Closes loop renaming → (e m : ℕ) → first_count loop ≤ m
+pub enough_later : (loop : List RawLink) (renaming : List ℕ) → IsClosedBy loop renaming → (e m : ℕ) → first_count loop ≤ m
     → growth_fault loop renaming e (first_count loop) ≡ None → growth_fault loop renaming m (first_count loop) ≡ None
 enough_later loop renaming h e m le g = all_none (growth_fault_at loop renaming m) 0 (first_count loop) (λ t lo hi. at_tile t (omega arith))
   where
@@ -125,12 +125,12 @@ enough_later loop renaming h e m le g = all_none (growth_fault_at loop renaming 
         let high = long_ever Two loop renaming h e m t le lt b.1 in
         rw (wide, high) refl
 
-some_count : (loop : List RawLink) (renaming : List ℕ) → Closes loop renaming → 0 < first_count loop
+some_count : (loop : List RawLink) (renaming : List ℕ) → IsClosedBy loop renaming → 0 < first_count loop
 some_count [] renaming h = absurd h
 some_count (link ∷ links) renaming h = (few_tiles (fine_of link) (fine_good link h.0.0)).0
 
 -- where no number of turns up to the number of tiles is enough, none is
-pub none_later : (loop : List RawLink) (renaming : List ℕ) → Closes loop renaming → least_expansion loop renaming (first_count loop) ≡ None
+pub none_later : (loop : List RawLink) (renaming : List ℕ) → IsClosedBy loop renaming → least_expansion loop renaming (first_count loop) ≡ None
     → (e : ℕ) → growth_fault loop renaming e (first_count loop) ≡ None → ⊥
 none_later loop renaming h none e g =
     let n = first_count loop in
@@ -140,12 +140,12 @@ none_later loop renaming h none e g =
     let is : enough loop renaming n (n - 1) ≡ Some (n - 1 + 1) = rw last refl in
     cc
 
-few_count : (loop : List RawLink) (renaming : List ℕ) → Closes loop renaming → first_count loop ≤ 256
+few_count : (loop : List RawLink) (renaming : List ℕ) → IsClosedBy loop renaming → first_count loop ≤ 256
 few_count [] renaming h = absurd h
 few_count (link ∷ links) renaming h = (few_tiles (fine_of link) (fine_good link h.0.0)).1
 
 -- more than 256 turns tell no more than 256
-pub capped : (loop : List RawLink) (renaming : List ℕ) → Closes loop renaming → (e : ℕ)
+pub capped : (loop : List RawLink) (renaming : List ℕ) → IsClosedBy loop renaming → (e : ℕ)
     → growth_fault loop renaming (min e 256) (first_count loop) ≡ growth_fault loop renaming e (first_count loop)
 capped loop renaming h e = elim (cases_lt e 256) [
   | inl less ↦ let same : min e 256 ≡ e = omega arith in rw same refl

@@ -19,7 +19,7 @@ use Rattle.wt_step.specs.declared.raw.StepFault.{StepFault}
 use Rattle.wt_step.specs.Links.{link_fault, fine_of, coarse_of}
 use Rattle.wt_chain.specs.declared.raw.Refusal.{Refusal}
 use Rattle.wt_chain.specs.declared.raw.Refusal.TheVariants.{Step, NotNext}
-use Rattle.wt_chain.specs.Sets.{same_set, comes_next, last_set, AreLinked, IsRun, IsRenamed, Closes}
+use Rattle.wt_chain.specs.Sets.{same_set, comes_next, last_set, AreLinked, IsRun, IsRenamed, IsClosedBy}
 use Rattle.wt_chain.specs.Faults.{unless, step_fault_at, steps_fault_from, steps_fault}
 use Rattle.wt_chain.proofs.Grown.{coarse_good}
 
@@ -111,6 +111,6 @@ few_numbers link links renaming h e =
     let whole = no_fault (last_set (coarse_of link) links).tiles (fine_of link).tiles renaming e in
     omega arith
 
-pub closes : (loop : List RawLink) (renaming : List ℕ) → IsRun loop → IsRenamed loop renaming → Closes loop renaming
+pub closes : (loop : List RawLink) (renaming : List ℕ) → IsRun loop → IsRenamed loop renaming → IsClosedBy loop renaming
 closes [] renaming run same = absurd same
 closes (link ∷ links) renaming run same = (run, same)

@@ -11,22 +11,22 @@ use Rattle.wt_chain.specs.Sets.{last_set, IsRun}
 use Rattle.wt_chain.specs.Turns.{turned_times, single}
 
 -- the image of tile t after so many turns is at least two wide and two high
-pub record Grows (loop : List RawLink) (renaming : List ℕ) (n t : ℕ) : Type 0 where
+pub record HasGrown (loop : List RawLink) (renaming : List ℕ) (n t : ℕ) : Type 0 where
   pub wide : 2 ≤ (turned_times loop renaming n (single t)).width
   pub high : 2 ≤ (turned_times loop renaming n (single t)).height
 
 -- the steps of a loop: there is one, the renaming carries the last set onto the first, and the image of each tile there grows
-abbrev pub GoodLoop : List RawLink → List ℕ → ℕ → Type 0
-GoodLoop [] renaming expansion = ⊥
-GoodLoop (link ∷ links) renaming expansion =
+abbrev pub IsGoodLoop : List RawLink → List ℕ → ℕ → Type 0
+IsGoodLoop [] renaming expansion = ⊥
+IsGoodLoop (link ∷ links) renaming expansion =
     IsRenaming (last_set (coarse_of link) links).tiles (fine_of link).tiles renaming
-    × ((t : ℕ) → t < length (fine_of link).tiles → Grows (link ∷ links) renaming expansion t)
+    × ((t : ℕ) → t < length (fine_of link).tiles → HasGrown (link ∷ links) renaming expansion t)
 
-abbrev pub GoodEnd : List RawLink → End → Type 0
-GoodEnd links Open = Unit {0}
-GoodEnd links (Loop start renaming expansion) = GoodLoop (drop start links) renaming expansion
+abbrev pub IsGoodEnd : List RawLink → End → Type 0
+IsGoodEnd links Open = Unit {0}
+IsGoodEnd links (Loop start renaming expansion) = IsGoodLoop (drop start links) renaming expansion
 
-pub record GoodChain (c : RawChain) : Type 0 where
+pub record IsGoodChain (c : RawChain) : Type 0 where
   -- 1 to 32 steps
   pub some : 0 < length c.steps
   pub few : length c.steps ≤ 32
@@ -34,4 +34,4 @@ pub record GoodChain (c : RawChain) : Type 0 where
   pub version : version_fits c.version c.steps ≡ true
   -- each step is good, and takes apart the set before it
   pub run : IsRun c.steps
-  pub end : GoodEnd c.steps c.end
+  pub end : IsGoodEnd c.steps c.end

@@ -42,9 +42,9 @@ first_count [] = 0
 first_count (link ∷ links) = length (fine_of link).tiles
 
 -- the steps are good, one behind the other, and the renaming leads from the last set to the first
-abbrev pub Closes : List RawLink → List ℕ → Type 0
-Closes [] renaming = ⊥
-Closes (link ∷ links) renaming =
+abbrev pub IsClosedBy : List RawLink → List ℕ → Type 0
+IsClosedBy [] renaming = ⊥
+IsClosedBy (link ∷ links) renaming =
     AreLinked (fine_of link) (link ∷ links) × (renaming_fault (last_set (coarse_of link) links).tiles (fine_of link).tiles renaming ≡ None)
 
 -- the set of a level: the fine set of the step with this number, and behind the last step its coarse set

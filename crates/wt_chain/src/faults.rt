@@ -1,7 +1,7 @@
 // The first failing condition of a chain.
 ghost use Rattle.std.specs.Prelude.{◌≡◌, ◌∷◌, drop, None, Some, option_map};
 ghost use Rattle.wt_step.specs.Links.{fine_of};
-ghost use Rattle.wt_chain.specs.Sets.{AreLinked, IsRun, Closes, first_count};
+ghost use Rattle.wt_chain.specs.Sets.{AreLinked, IsRun, IsClosedBy, first_count};
 ghost use Rattle.wt_chain.specs.Faults as spec;
 
 use crate::growth::{growth_fault, least_expansion};
@@ -88,7 +88,7 @@ pub fn loop_fault(links: &[RawLink], renaming: &[u16], turns: u32) -> Option<Ref
 
 /// The least expansion of a loop whose steps are good and whose renaming has no fault.
 pub fn loop_expansion(links: &[RawLink], renaming: &[u16]) -> Option<u32>
-    requires { Closes links.now renaming.now }
+    requires { IsClosedBy links.now renaming.now }
     ensures { result ≡ spec.least_expansion links.now renaming.now (first_count links.now) }
 {
     match links {
@@ -104,7 +104,7 @@ fn closed_expansion(
     renaming: &[u16],
 ) -> Option<u32>
     requires whole { links.now ≡ first.now ∷ others.now }
-    requires closed { Closes (first.now ∷ others.now) renaming.now }
+    requires closed { IsClosedBy (first.now ∷ others.now) renaming.now }
     ensures { result ≡ spec.least_expansion (first.now ∷ others.now) renaming.now (first_count (first.now ∷ others.now)) }
 {
     let set = SetRef::of(fine_set(first));

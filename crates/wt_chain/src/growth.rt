@@ -2,7 +2,7 @@
 ghost use Rattle.std.specs.Prelude.{◌≡◌, ◌+◌, ◌<◌, ◌≤◌, length, false, slice_index};
 ghost use Rattle.wt_grid.specs.declared.axis.Axis.TheVariants.{One, Two};
 ghost use Rattle.wt_chain.specs.Growth as growth;
-ghost use Rattle.wt_chain.specs.Sets.{Closes, first_count};
+ghost use Rattle.wt_chain.specs.Sets.{IsClosedBy, first_count};
 ghost use Rattle.wt_chain.specs.Faults as faults;
 ghost use Rattle.wt_chain.specs.Tables.{renamed_table, turns_table};
 ghost use Rattle.wt_chain.specs.Tables as tables;
@@ -165,7 +165,7 @@ fn first_small(wide: &[bool; 256], high: &[bool; 256], count: u16) -> Option<Ref
 
 /// The first tile of the loop's first set whose image after so many turns isn't at least two wide and two high. The steps are good, each takes apart the set before it, and the renaming has no fault; more than 256 turns tell no more than 256.
 pub fn growth_fault(links: &[RawLink], renaming: &[u16], turns: u32, count: u16) -> Option<Refusal>
-    requires closed { Closes links.now renaming.now }
+    requires closed { IsClosedBy links.now renaming.now }
     requires counted { count ≡ first_count links.now }
     requires few { length renaming.now ≤ 256 }
     ensures { result ≡ faults.growth_fault links.now renaming.now turns count }
@@ -198,7 +198,7 @@ fn fault_after(
     high: &[bool; 256],
     count: u16,
 ) -> Option<Refusal>
-    requires closed { Closes links.now renaming.now }
+    requires closed { IsClosedBy links.now renaming.now }
     requires counted { count ≡ first_count links.now }
     requires widths { wide.now ≡ turns_table One links.now renaming.now turns }
     requires heights { high.now ≡ turns_table Two links.now renaming.now turns }
@@ -216,7 +216,7 @@ fn enough_after(
     high: &[bool; 256],
     count: u16,
 ) -> Option<u32>
-    requires closed { Closes links.now renaming.now }
+    requires closed { IsClosedBy links.now renaming.now }
     requires counted { count ≡ first_count links.now }
     requires widths { wide.now ≡ turns_table One links.now renaming.now (turn + 1) }
     requires heights { high.now ≡ turns_table Two links.now renaming.now (turn + 1) }
@@ -232,7 +232,7 @@ fn enough_after(
 /// The least number of turns, at most the number of tiles of the loop's first set, that makes the image of each tile there at least two wide and two high.
 #[tactic(auto, using(wt_grid::proofs::First::first_more))]
 pub fn least_expansion(links: &[RawLink], renaming: &[u16], count: u16) -> Option<u32>
-    requires closed { Closes links.now renaming.now }
+    requires closed { IsClosedBy links.now renaming.now }
     requires counted { count ≡ first_count links.now }
     requires few { length renaming.now ≤ 256 }
     ensures { result ≡ faults.least_expansion links.now renaming.now count }

@@ -13,9 +13,9 @@ use Rattle.wt_step.specs.Links.{fine_of, coarse_of}
 use Rattle.wt_chain.specs.Sets.{last_set, AreLinked}
 use Rattle.wt_chain.specs.Growth.{turn_stages}
 use Rattle.wt_chain.specs.Turns.{image_under, image_through, renamed_back, turned, turned_times}
-use Rattle.wt_chain.specs.Good.{GoodLoop, Grows}
+use Rattle.wt_chain.specs.Good.{IsGoodLoop, HasGrown}
 use Rattle.wt_chain.proofs.Turned.{row, row_long, times_row}
-use Rattle.wt_scale.specs.Existence.{TwiceSized}
+use Rattle.wt_scale.specs.Existence.{IsTwiceSized}
 use Rattle.wt_scale.proofs.LinkImages.{link_image, no_smaller}
 use Rattle.wt_scale.proofs.RenamedBack.{renamed_back_valid}
 use Rattle.wt_scale.proofs.NoPeriods.{twice, grow_wide, grow_high}
@@ -51,7 +51,7 @@ module _ (l : RawLink) (ls : List RawLink) (list : List ℕ) (linked : AreLinked
   times_valid zero g p = p
   times_valid (suc n) g p = times_valid n (turned (l ∷ ls) list g) (turned_valid g p)
 
-  module _ (e : ℕ) (grows : (t : ℕ) → t < length (fine_of l).tiles → Grows (l ∷ ls) list e t) where
+  module _ (e : ℕ) (grows : (t : ℕ) → t < length (fine_of l).tiles → HasGrown (l ∷ ls) list e t) where
     twice_wide : (g : Grid) → IsPattern (fine_of l).tiles g → 2 * g.width ≤ (turned_times (l ∷ ls) list e g).width
     twice_wide g p =
         let s = turn_stages One (l ∷ ls) list e in
@@ -73,8 +73,8 @@ module _ (l : RawLink) (ls : List RawLink) (list : List ℕ) (linked : AreLinked
         omega (arith, a, b, c, t)
 
 -- After so many turns as let each tile grow, each side of a valid pattern is at least twice as long.
-pub doubled_sides : (l : RawLink) (ls : List RawLink) → AreLinked (fine_of l) (l ∷ ls) → (list : List ℕ) (e : ℕ) → GoodLoop (l ∷ ls) list e → (g : Grid) → IsPattern (fine_of l).tiles g
-    → TwiceSized (fine_of l).tiles g (turned_times (l ∷ ls) list e g)
+pub doubled_sides : (l : RawLink) (ls : List RawLink) → AreLinked (fine_of l) (l ∷ ls) → (list : List ℕ) (e : ℕ) → IsGoodLoop (l ∷ ls) list e → (g : Grid) → IsPattern (fine_of l).tiles g
+    → IsTwiceSized (fine_of l).tiles g (turned_times (l ∷ ls) list e g)
 doubled_sides l ls linked list e good g p = record {
   pattern = times_valid l ls list linked good.0 e g p;
   wide = twice_wide l ls list linked good.0 e good.1 g p;

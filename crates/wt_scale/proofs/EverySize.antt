@@ -16,7 +16,7 @@ use Rattle.wt_chain.specs.declared.raw.RawChain.{RawChain}
 use Rattle.wt_chain.specs.declared.raw.End.TheVariants.{Loop}
 use Rattle.wt_chain.specs.Sets.{last_set, AreLinked}
 use Rattle.wt_chain.specs.Turns.{image_through, turned, turned_times, single}
-use Rattle.wt_chain.specs.Good.{GoodChain, GoodLoop, GoodEnd}
+use Rattle.wt_chain.specs.Good.{IsGoodChain, IsGoodLoop, IsGoodEnd}
 use Rattle.wt_chain.proofs.Grown.{fine_good}
 use Rattle.wt_scale.specs.Existence.{IsPatternOf, HasPattern}
 use Rattle.wt_scale.specs.Pick.{power_for, lower_left, grown, pick}
@@ -58,7 +58,7 @@ pub record IsLong (ts : List Tile) (side : ℕ) (g : Grid) : Type 0 where
   pub wide : side ≤ g.width
   pub high : side ≤ g.height
 
-module _ (l : RawLink) (ls : List RawLink) (linked : AreLinked (fine_of l) (l ∷ ls)) (list : List ℕ) (e : ℕ) (good : GoodLoop (l ∷ ls) list e) where
+module _ (l : RawLink) (ls : List RawLink) (linked : AreLinked (fine_of l) (l ∷ ls)) (list : List ℕ) (e : ℕ) (good : IsGoodLoop (l ∷ ls) list e) where
   -- e turns more double the sides
   longer : (side : ℕ) (g : Grid) → IsLong (fine_of l).tiles side g → IsLong (fine_of l).tiles (side + side) (turned_times (l ∷ ls) list e g)
   longer side g r =
@@ -87,7 +87,7 @@ module _ (l : RawLink) (ls : List RawLink) (linked : AreLinked (fine_of l) (l �
       subst (λ (g : Grid). IsLong (fine_of l).tiles (2 ^ suc k) g) (sym (grown_more (l ∷ ls) list e k)) s
 
 -- Images under the steps before the loop are no smaller: for each n, turns for the power of n come to sides of at least n.
-pub long_from_start : (first : RawLink) (rest : List RawLink) → AreLinked (fine_of first) (first ∷ rest) → (start : ℕ) (list : List ℕ) (e : ℕ) (loop : List RawLink) → drop start (first ∷ rest) ≡ loop → GoodLoop loop list e
+pub long_from_start : (first : RawLink) (rest : List RawLink) → AreLinked (fine_of first) (first ∷ rest) → (start : ℕ) (list : List ℕ) (e : ℕ) (loop : List RawLink) → drop start (first ∷ rest) ≡ loop → IsGoodLoop loop list e
     → (n : ℕ) → IsLong (fine_of first).tiles n (image_through (take start (first ∷ rest)) (grown loop list e (power_for n)))
 long_from_start first rest linked start list e [] same good n = absurd good
 long_from_start first rest linked start list e (l ∷ ls) same good n =
@@ -104,7 +104,7 @@ long_from_start first rest linked start list e (l ∷ ls) same good n =
     let tw = t.wide in let th = t.high in
     record { pattern = t.pattern; wide = omega (arith, b, gw, tw); high = omega (arith, b, gh, th) }
 
-from_start : (first : RawLink) (rest : List RawLink) → AreLinked (fine_of first) (first ∷ rest) → (start : ℕ) (list : List ℕ) (e : ℕ) (loop : List RawLink) → drop start (first ∷ rest) ≡ loop → GoodLoop loop list e
+from_start : (first : RawLink) (rest : List RawLink) → AreLinked (fine_of first) (first ∷ rest) → (start : ℕ) (list : List ℕ) (e : ℕ) (loop : List RawLink) → drop start (first ∷ rest) ≡ loop → IsGoodLoop loop list e
     → (w h : ℕ) → 1 ≤ w → 1 ≤ h → IsPatternOf (fine_of first).tiles w h (lower_left w h (image_through (take start (first ∷ rest)) (grown loop list e (power_for (max w h)))))
 from_start first rest linked start list e loop same good w h some_wide some_high =
     let g = long_from_start first rest linked start list e loop same good (max w h) in
@@ -113,16 +113,16 @@ from_start first rest linked start list e loop same good w h some_wide some_high
     cut_down (fine_of first).tiles (image_through (take start (first ∷ rest)) (grown loop list e (power_for (max w h)))) w h g.pattern some_wide some_high (omega (arith, mw, gw)) (omega (arith, mh, gh))
 
 -- Each pick is a valid pattern over the first set, of its size.
-pub valid_pick : (c : RawChain) → GoodChain c → (start e : ℕ) (list : List ℕ) → c.end ≡ Loop start list e → (first : RawLink) (rest : List RawLink) → c.steps ≡ first ∷ rest
+pub valid_pick : (c : RawChain) → IsGoodChain c → (start e : ℕ) (list : List ℕ) → c.end ≡ Loop start list e → (first : RawLink) (rest : List RawLink) → c.steps ≡ first ∷ rest
     → (w h : ℕ) → 1 ≤ w → 1 ≤ h → IsPatternOf (fine_of first).tiles w h (pick c.steps start list e w h)
 valid_pick c good start e list end first rest steps w h some_wide some_high =
     let linked = run_is_linked first rest c.steps steps good.run in
-    let loop : GoodLoop (drop start (first ∷ rest)) list e = subst (λ (xs : List RawLink). GoodLoop (drop start xs) list e) steps (subst (λ (z : _). GoodEnd c.steps z) end good.end) in
+    let loop : IsGoodLoop (drop start (first ∷ rest)) list e = subst (λ (xs : List RawLink). IsGoodLoop (drop start xs) list e) steps (subst (λ (z : _). IsGoodEnd c.steps z) end good.end) in
     subst (λ (xs : List RawLink). IsPatternOf (fine_of first).tiles w h (pick xs start list e w h)) (sym steps)
     (from_start first rest linked start list e (drop start (first ∷ rest)) refl loop w h some_wide some_high)
 
 -- So there is a valid pattern of each size.
-pub every_size : (c : RawChain) → GoodChain c → (start e : ℕ) (list : List ℕ) → c.end ≡ Loop start list e → (first : RawLink) (rest : List RawLink) → c.steps ≡ first ∷ rest
+pub every_size : (c : RawChain) → IsGoodChain c → (start e : ℕ) (list : List ℕ) → c.end ≡ Loop start list e → (first : RawLink) (rest : List RawLink) → c.steps ≡ first ∷ rest
     → (w h : ℕ) → 1 ≤ w → 1 ≤ h → HasPattern (fine_of first).tiles w h
 every_size c good start e list end first rest steps w h some_wide some_high = record {
   grid = pick c.steps start list e w h;

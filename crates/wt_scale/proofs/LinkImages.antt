@@ -22,7 +22,7 @@ use Rattle.wt_grid.proofs.ImageGrids.{valid_image, image_count}
 use Rattle.wt_step.specs.declared.raw.RawRestrict.{RawRestrict}
 use Rattle.wt_step.specs.declared.raw.RawLink.{RawLink}
 use Rattle.wt_step.specs.declared.raw.RawLink.TheVariants.{Marker, Restrict}
-use Rattle.wt_step.specs.Good.{GoodRestrict}
+use Rattle.wt_step.specs.Good.{IsGoodRestrict}
 use Rattle.wt_step.specs.Links.{link_fault, coarse_of}
 use Rattle.wt_step.specs.Meaning.{kept_pieces}
 use Rattle.wt_step.proofs.Goodness.{good_step}
@@ -31,7 +31,7 @@ use Rattle.wt_step.proofs.ImageLaw.{image_valid}
 use Rattle.wt_chain.specs.Turns.{axis_of, image_under}
 use Rattle.wt_step.specs.Meaning.{pieces_of}
 use Rattle.wt_chain.proofs.Grown.{first_fits}
-use Rattle.wt_scale.specs.Existence.{ValidImage}
+use Rattle.wt_scale.specs.Existence.{HasValidImage}
 
 -- ---- sizes
 
@@ -63,7 +63,7 @@ no_smaller l q = no_smaller_along (axis_of l) q (image_under l q) (wide_image l 
 
 -- ---- restrict steps
 
-module _ (s : RawRestrict) (e : link_fault (Restrict s) ≡ None) (g : GoodRestrict s) where
+module _ (s : RawRestrict) (e : link_fault (Restrict s) ≡ None) (g : IsGoodRestrict s) where
   kept_piece : (i : ℕ) → piece_at (kept_pieces s) i ≡ Single (get_or s.kept i 0)
   kept_piece i = get_or-map Single s.kept i 0
 
@@ -96,7 +96,7 @@ module _ (s : RawRestrict) (e : link_fault (Restrict s) ≡ None) (g : GoodRestr
 
 -- ---- steps of either kind
 
-pub link_image : (l : RawLink) → link_fault l ≡ None → (q : Grid) → IsPattern (coarse_of l).tiles q → ValidImage l q
+pub link_image : (l : RawLink) → link_fault l ≡ None → (q : Grid) → IsPattern (coarse_of l).tiles q → HasValidImage l q
 unfolding link_fault
 link_image (Marker s) e q p =
     let v = image_valid s (good_step s e) q p in

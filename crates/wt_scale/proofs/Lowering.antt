@@ -27,13 +27,13 @@ use Rattle.wt_step.specs.declared.raw.RawRestrict.{RawRestrict}
 use Rattle.wt_step.specs.declared.raw.RawLink.{RawLink}
 use Rattle.wt_step.specs.declared.raw.RawLink.TheVariants.{Marker, Restrict}
 use Rattle.wt_step.specs.Words.{is_marker}
-use Rattle.wt_step.specs.Good.{GoodStep, GoodRestrict}
+use Rattle.wt_step.specs.Good.{IsGoodStep, IsGoodRestrict}
 use Rattle.wt_step.specs.Links.{link_fault, fine_of}
-use Rattle.wt_step.specs.Meaning.{pieces, kept_pieces, cut_core, IsCoarse}
+use Rattle.wt_step.specs.Meaning.{pieces, kept_pieces, cut_core, IsMarkerDesubstitution}
 use Rattle.wt_step.proofs.Goodness.{good_step}
 use Rattle.wt_step.proofs.Restricted.{good_restrict, some_kept}
 use Rattle.wt_step.proofs.Desubstitution.{some_coarse}
-use Rattle.wt_scale.specs.Scales.{Lowered, side_below}
+use Rattle.wt_scale.specs.Scales.{HasCoarsePeriod, side_below}
 use Rattle.wt_step.proofs.PeriodLaw.{carried}
 use Rattle.wt_step.proofs.KeptPeriods.{no_pairs, kept_vector}
 
@@ -48,8 +48,8 @@ record Along (x : Axis) (im : List Image) (p q : Grid) (side : ℕ) (opposed : B
   run_along : (s : Stage) (ss : List Stage) (n : ℕ) → IsStageOf true im s → IsTraced x ss n p d → IsTraced x (s ∷ ss) n q count
   run_across : (s : Stage) (ss : List Stage) (n : ℕ) → IsStageOf false im s → IsTraced (other x) ss n p e → IsTraced (other x) (s ∷ ss) n q e
 
-module _ (s : RawStep) (g : GoodStep s) where
-  lower_along : (p q : Grid) (side : ℕ) (opposed : Bool) (d e : ℕ) → IsPattern s.fine.tiles p → IsGrid q → IsCoarse s p q
+module _ (s : RawStep) (g : IsGoodStep s) where
+  lower_along : (p q : Grid) (side : ℕ) (opposed : Bool) (d e : ℕ) → IsPattern s.fine.tiles p → IsGrid q → IsMarkerDesubstitution s p q
       → 2 * side + 2 * s.radius + 2 ≤ along s.axis p → 2 * side + 2 * s.radius + 2 ≤ across s.axis p → d + 2 ≤ side → e + 2 ≤ side
       → HasVector s.axis opposed d e p → Along s.axis (pieces s) p q side opposed d e
   lower_along p q side opposed d e v iq i la lc ld le h =
@@ -86,7 +86,7 @@ module _ (s : RawStep) (g : GoodStep s) where
 
   -- the coarse pattern, where the step's axis is known
   marker_one : s.axis ≡ One → (p : Grid) (side : ℕ) (opposed : Bool) (dx dy : ℕ) → IsPattern s.fine.tiles p → side_below (Marker s) side ≤ p.width → side_below (Marker s) side ≤ p.height
-      → dx + 2 ≤ side → dy + 2 ≤ side → HasVector One opposed dx dy p → Lowered (Marker s) p side opposed dx dy
+      → dx + 2 ≤ side → dy + 2 ≤ side → HasVector One opposed dx dy p → HasCoarsePeriod (Marker s) p side opposed dx dy
   marker_one ax p side opposed dx dy v lw lh lx ly h =
       let x : s.axis ≡ One = ax in
       let a = s.axis in
@@ -119,7 +119,7 @@ module _ (s : RawStep) (g : GoodStep s) where
       }
 
   marker_two : s.axis ≡ Two → (p : Grid) (side : ℕ) (opposed : Bool) (dx dy : ℕ) → IsPattern s.fine.tiles p → side_below (Marker s) side ≤ p.width → side_below (Marker s) side ≤ p.height
-      → dx + 2 ≤ side → dy + 2 ≤ side → HasVector One opposed dx dy p → Lowered (Marker s) p side opposed dx dy
+      → dx + 2 ≤ side → dy + 2 ≤ side → HasVector One opposed dx dy p → HasCoarsePeriod (Marker s) p side opposed dx dy
   marker_two ax p side opposed dx dy v lw lh lx ly h =
       let x : s.axis ≡ Two = ax in
       let a = s.axis in
@@ -152,18 +152,18 @@ module _ (s : RawStep) (g : GoodStep s) where
       }
 
   marker_lowered : (ax : Axis) → s.axis ≡ ax → (p : Grid) (side : ℕ) (opposed : Bool) (dx dy : ℕ) → IsPattern s.fine.tiles p → side_below (Marker s) side ≤ p.width → side_below (Marker s) side ≤ p.height
-      → dx + 2 ≤ side → dy + 2 ≤ side → HasVector One opposed dx dy p → Lowered (Marker s) p side opposed dx dy
+      → dx + 2 ≤ side → dy + 2 ≤ side → HasVector One opposed dx dy p → HasCoarsePeriod (Marker s) p side opposed dx dy
   marker_lowered One ax = marker_one ax
   marker_lowered Two ax = marker_two ax
 
 -- ---- restrict steps
 
-module _ (s : RawRestrict) (g : GoodRestrict s) where
+module _ (s : RawRestrict) (g : IsGoodRestrict s) where
   whole_in : (ls : List (List ℕ)) → StandsIn ls ls
   whole_in ls = ([], [], sym (append-nil ls))
 
   restrict_lowered : (p : Grid) (side : ℕ) (opposed : Bool) (dx dy : ℕ) → IsPattern s.fine.tiles p → side_below (Restrict s) side ≤ p.width → side_below (Restrict s) side ≤ p.height
-      → dx + 2 ≤ side → dy + 2 ≤ side → HasVector One opposed dx dy p → Lowered (Restrict s) p side opposed dx dy
+      → dx + 2 ≤ side → dy + 2 ≤ side → HasVector One opposed dx dy p → HasCoarsePeriod (Restrict s) p side opposed dx dy
   restrict_lowered p side opposed dx dy v lw lh lx ly h =
       let r = s.radius in
       let c = core r p in
@@ -190,7 +190,7 @@ module _ (s : RawRestrict) (g : GoodRestrict s) where
 
 -- A pattern with a period, and a step of either kind.
 pub lowered : (l : RawLink) → link_fault l ≡ None → (p : Grid) (side : ℕ) (opposed : Bool) (dx dy : ℕ) → IsPattern (fine_of l).tiles p → side_below l side ≤ p.width → side_below l side ≤ p.height
-    → dx + 2 ≤ side → dy + 2 ≤ side → HasVector One opposed dx dy p → Lowered l p side opposed dx dy
+    → dx + 2 ≤ side → dy + 2 ≤ side → HasVector One opposed dx dy p → HasCoarsePeriod l p side opposed dx dy
 unfolding link_fault
 lowered (Marker s) e = marker_lowered s (good_step s e) s.axis refl
 lowered (Restrict s) e = restrict_lowered s (good_restrict s e)

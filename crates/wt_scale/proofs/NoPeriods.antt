@@ -20,7 +20,7 @@ use Rattle.wt_chain.specs.declared.raw.RawChain.{RawChain}
 use Rattle.wt_chain.specs.declared.raw.End.TheVariants.{Loop}
 use Rattle.wt_chain.specs.Sets.{last_set, AreLinked, IsRun}
 use Rattle.wt_chain.specs.Growth.{stages, turn_stages}
-use Rattle.wt_chain.specs.Good.{GoodChain, GoodLoop, GoodEnd, Grows}
+use Rattle.wt_chain.specs.Good.{IsGoodChain, IsGoodLoop, IsGoodEnd, HasGrown}
 use Rattle.wt_chain.proofs.Turned.{wide, high}
 use Rattle.wt_scale.specs.Sizes.{size_from, turns_size, size_of}
 use Rattle.wt_step.specs.Carried.{magnitude}
@@ -61,7 +61,7 @@ pub doubled : (k : ℕ) → 2 ^ suc k ≡ 2 ^ k + 2 ^ k
 doubled k = pow-succ' 2 k ∙ (let p = 2 ^ k in omega arith)
 
 module _ (l : RawLink) (ls : List RawLink) (list : List ℕ) (e : ℕ) (linked : AreLinked (fine_of l) (l ∷ ls)) (ren : IsRenaming (last_set (coarse_of l) ls).tiles (fine_of l).tiles list)
-    (grows : (t : ℕ) → t < length (fine_of l).tiles → Grows (l ∷ ls) list e t) where
+    (grows : (t : ℕ) → t < length (fine_of l).tiles → HasGrown (l ∷ ls) list e t) where
   pub grow_wide : (t : ℕ) → t < length (fine_of l).tiles → 2 ≤ width (turn_stages One (l ∷ ls) list e) t
   grow_wide t lt = let g = (grows t lt).wide in let w = wide (l ∷ ls) list e t in omega arith
 
@@ -105,7 +105,7 @@ run_linked set (x ∷ xs) h l ls e =
 
 -- The size that the chain asks for vectors of at most m leaves no room for one.
 loop_outgrows : (l : RawLink) (ls : List RawLink) (list : List ℕ) (e : ℕ) → AreLinked (fine_of l) (l ∷ ls) → IsRenaming (last_set (coarse_of l) ls).tiles (fine_of l).tiles list
-    → ((t : ℕ) → t < length (fine_of l).tiles → Grows (l ∷ ls) list e t) → (k m : ℕ) (opposed : Bool) (d c : ℕ) → d ≤ m → c ≤ m → m < 2 ^ k → (1 ≤ d) ⊎ (1 ≤ c)
+    → ((t : ℕ) → t < length (fine_of l).tiles → HasGrown (l ∷ ls) list e t) → (k m : ℕ) (opposed : Bool) (d c : ℕ) → d ≤ m → c ≤ m → m < 2 ^ k → (1 ≤ d) ⊎ (1 ≤ c)
     → Standing (fine_of l).tiles (turns_size (l ∷ ls) (e * k) (m + 2)) opposed [] [] d c → ⊥
 loop_outgrows l ls list e linked ren grows k m opposed d c ld lc lm some s =
     let r = outgrown l ls list e linked ren grows k (m + 2) opposed d c (omega arith) (omega arith) s in
@@ -131,7 +131,7 @@ started ts side opposed d c p v w h x = record {
 pub split_steps : (first : RawLink) (rest loop : List RawLink) (start : ℕ) → drop start (first ∷ rest) ≡ loop → take start (first ∷ rest) ++ loop ≡ first ∷ rest
 split_steps first rest loop start e = ap (λ (ys : List RawLink). take start (first ∷ rest) ++ ys) (sym e) ∙ take-append-drop start (first ∷ rest)
 
-at_start : (first : RawLink) (rest : List RawLink) → AreLinked (fine_of first) (first ∷ rest) → (start : ℕ) (list : List ℕ) (e : ℕ) (loop : List RawLink) → drop start (first ∷ rest) ≡ loop → GoodLoop loop list e
+at_start : (first : RawLink) (rest : List RawLink) → AreLinked (fine_of first) (first ∷ rest) → (start : ℕ) (list : List ℕ) (e : ℕ) (loop : List RawLink) → drop start (first ∷ rest) ≡ loop → IsGoodLoop loop list e
     → (k m : ℕ) (opposed : Bool) (d c : ℕ) → d ≤ m → c ≤ m → m < 2 ^ k → (1 ≤ d) ⊎ (1 ≤ c)
     → Standing (fine_of first).tiles (size_from (take start (first ∷ rest)) (turns_size loop (e * k) (m + 2))) opposed [] [] d c → ⊥
 at_start first rest linked start list e [] same good k m opposed d c ld lc lm some s = good
@@ -155,12 +155,12 @@ pub run_is_linked : (first : RawLink) (rest steps : List RawLink) → steps ≡ 
 run_is_linked first rest steps e run = subst (λ (xs : List RawLink). IsRun xs) e run
 
 -- No vector of components up to m is a period of a valid pattern of the stated size over the first set.
-pub no_period : (c : RawChain) → GoodChain c → (start e : ℕ) (list : List ℕ) → c.end ≡ Loop start list e → (first : RawLink) (rest : List RawLink) → c.steps ≡ first ∷ rest
+pub no_period : (c : RawChain) → IsGoodChain c → (start e : ℕ) (list : List ℕ) → c.end ≡ Loop start list e → (first : RawLink) (rest : List RawLink) → c.steps ≡ first ∷ rest
     → (x y : ℤ) (m k : ℕ) → magnitude x ≤ m → magnitude y ≤ m → m < 2 ^ k → (1 ≤ magnitude x) ⊎ (1 ≤ magnitude y)
     → (p : Grid) → IsPattern (fine_of first).tiles p → size_of c.steps start e k m ≤ p.width → size_of c.steps start e k m ≤ p.height → IsPeriod p x y → ⊥
 no_period c good start e list end first rest steps x y m k lx ly lm some p v w h period =
     let linked = run_is_linked first rest c.steps steps good.run in
-    let loop : GoodLoop (drop start (first ∷ rest)) list e = subst (λ (xs : List RawLink). GoodLoop (drop start xs) list e) steps (subst (λ (z : _). GoodEnd c.steps z) end good.end) in
+    let loop : IsGoodLoop (drop start (first ∷ rest)) list e = subst (λ (xs : List RawLink). IsGoodLoop (drop start xs) list e) steps (subst (λ (z : _). IsGoodEnd c.steps z) end good.end) in
     let vec = to_vector One p x y period in
     let opposed = are_opposed x y in
     let size : ℕ = size_of (first ∷ rest) start e k m in

@@ -13,7 +13,7 @@ use Rattle.wt_grid.proofs.Bridge.{cell_of}
 use Rattle.wt_grid.proofs.Parts.{grid_grid}
 use Rattle.wt_chain.specs.Growth.{origin}
 use Rattle.wt_chain.specs.Turns.{renamed_back}
-use Rattle.wt_scale.specs.Existence.{SameSized}
+use Rattle.wt_scale.specs.Existence.{IsSameSized}
 use Rattle.wt_scale.proofs.Renamed.{origin_back}
 
 module _ (from to : List Tile) (list : List ℕ) (ren : IsRenaming from to list) where
@@ -71,7 +71,7 @@ module _ (from to : List Tile) (list : List ℕ) (ren : IsRenaming from to list)
         rw (back_at axis i j (omega arith) (omega arith), back_at axis (suc i) j (omega arith) (omega arith))
         (back_matches axis (at axis g i j) (at axis g (suc i) j) (tile_below axis i j (omega arith) (omega arith)) (tile_below axis (suc i) j (omega arith) (omega arith)) (p.2 axis i j (omega arith) (omega arith)))
 
-  pub renamed_back_valid : (g : Grid) → IsPattern to g → SameSized from g (renamed_back list g)
+  pub renamed_back_valid : (g : Grid) → IsPattern to g → IsSameSized from g (renamed_back list g)
   renamed_back_valid g p = record {
     pattern = (grid_grid g.width g.height (λ x y. origin list (cell g x y)) p.0.wide p.0.high, back_below g p, back_valid g p);
     wide = refl;

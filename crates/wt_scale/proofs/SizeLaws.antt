@@ -11,7 +11,7 @@ use Rattle.wt_step.specs.Links.{fine_of}
 use Rattle.wt_chain.specs.declared.raw.RawChain.{RawChain}
 use Rattle.wt_chain.specs.declared.raw.End.{End}
 use Rattle.wt_chain.specs.declared.raw.End.TheVariants.{Open, Loop}
-use Rattle.wt_chain.specs.Good.{GoodLoop, GoodEnd, GoodChain}
+use Rattle.wt_chain.specs.Good.{IsGoodLoop, IsGoodEnd, IsGoodChain}
 use Rattle.wt_scale.specs.declared.size.SizeFault.TheVariants.{ZeroVector, TooLarge}
 use Rattle.wt_scale.specs.Sizes.{size_from, turns_size}
 use Rattle.wt_step.specs.Carried.{magnitude}
@@ -20,13 +20,13 @@ use Rattle.wt_scale.proofs.NoPeriods.{no_period}
 use Rattle.wt_scale.proofs.Digits.{below_digits}
 
 -- a loop has a step to begin with
-inside_at : (links : List RawLink) (start : ℕ) (list : List ℕ) (e : ℕ) → GoodLoop (drop start links) list e → start ≤ length links
+inside_at : (links : List RawLink) (start : ℕ) (list : List ℕ) (e : ℕ) → IsGoodLoop (drop start links) list e → start ≤ length links
 inside_at links zero list e h = omega arith
 inside_at [] (suc start) list e h = absurd h
 inside_at (link ∷ links) (suc start) list e h = let r = inside_at links start list e h in omega arith
 
-pub start_inside : (c : RawChain) → GoodChain c → (start e : ℕ) (list : List ℕ) → c.end ≡ Loop start list e → start ≤ length c.steps
-start_inside c good start e list end = inside_at c.steps start list e (subst (λ (z : End). GoodEnd c.steps z) end good.end)
+pub start_inside : (c : RawChain) → IsGoodChain c → (start e : ℕ) (list : List ℕ) → c.end ≡ Loop start list e → start ≤ length c.steps
+start_inside c good start e list end = inside_at c.steps start list e (subst (λ (z : End). IsGoodEnd c.steps z) end good.end)
 
 fitting_by : (b : Bool) (n size : ℕ) → (if b then Ok n else Err TooLarge) ≡ Ok size → n ≡ size
 fitting_by true n size h = cc
@@ -56,7 +56,7 @@ nonzero a b h = elim (cases_lt 0 a) [
   ]
 ]
 
-looped : (c : RawChain) → GoodChain c → (end : End) → c.end ≡ end → (first : RawLink) (rest : List RawLink) → c.steps ≡ first ∷ rest
+looped : (c : RawChain) → IsGoodChain c → (end : End) → c.end ≡ end → (first : RawLink) (rest : List RawLink) → c.steps ≡ first ∷ rest
     → (x y : ℤ) (size : ℕ) → size_by_end c.steps end (reach x y) ≡ Ok size
     → (p : Grid) → IsPattern (fine_of first).tiles p → size ≤ p.width → size ≤ p.height → IsPeriod p x y → ⊥
 looped c good Open same first rest steps x y size h p v w t period = absurd cc
@@ -66,7 +66,7 @@ looped c good (Loop start list e) same first rest steps x y size h p v w t perio
     (below_digits (reach x y)) (nonzero (magnitude x) (magnitude y) a.0) p v (omega (arith, a.1, w)) (omega (arith, a.1, t)) period
 
 -- A valid pattern whose sides are at least the answered size doesn't have the vector as a period.
-pub excluded : (c : RawChain) → GoodChain c → (first : RawLink) (rest : List RawLink) → c.steps ≡ first ∷ rest → (x y : ℤ) (size : ℕ) → size_result c x y ≡ Ok size
+pub excluded : (c : RawChain) → IsGoodChain c → (first : RawLink) (rest : List RawLink) → c.steps ≡ first ∷ rest → (x y : ℤ) (size : ℕ) → size_result c x y ≡ Ok size
     → (p : Grid) → IsPattern (fine_of first).tiles p → size ≤ p.width → size ≤ p.height → IsPeriod p x y → ⊥
 excluded c good first rest steps x y size h = looped c good c.end refl first rest steps x y size h
 

@@ -11,7 +11,7 @@ use Rattle.wt_step.specs.Meaning.{pieces_of}
 use Rattle.wt_chain.specs.Turns.{axis_of, image_under}
 
 -- The rectangle that a coarse pattern stands for by a step: it is valid, equally large across the axis of the images, and along it at least as large, at most twice, and equally large where each image is a single tile.
-pub record ValidImage (l : RawLink) (q : Grid) : Type 0 where
+pub record HasValidImage (l : RawLink) (q : Grid) : Type 0 where
   pub pattern : IsPattern (fine_of l).tiles (image_under l q)
   pub image : IsImage (pieces_of l) (lines (axis_of l) q) (lines (axis_of l) (image_under l q))
   pub as_wide : across (axis_of l) (image_under l q) ≡ across (axis_of l) q
@@ -20,13 +20,13 @@ pub record ValidImage (l : RawLink) (q : Grid) : Type 0 where
   pub single : is_along (axis_of l) l ≡ false → along (axis_of l) (image_under l q) ≡ along (axis_of l) q
 
 -- a valid pattern with the sides of another
-pub record SameSized (tiles : List Tile) (g h : Grid) : Type 0 where
+pub record IsSameSized (tiles : List Tile) (g h : Grid) : Type 0 where
   pub pattern : IsPattern tiles h
   pub wide : h.width ≡ g.width
   pub high : h.height ≡ g.height
 
 -- a valid pattern with sides at least twice those of another
-pub record TwiceSized (tiles : List Tile) (g h : Grid) : Type 0 where
+pub record IsTwiceSized (tiles : List Tile) (g h : Grid) : Type 0 where
   pub pattern : IsPattern tiles h
   pub wide : 2 * g.width ≤ h.width
   pub high : 2 * g.height ≤ h.height

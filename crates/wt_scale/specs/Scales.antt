@@ -13,7 +13,7 @@ use Rattle.wt_step.specs.declared.raw.RawLink.{RawLink}
 use Rattle.wt_step.specs.declared.raw.RawLink.TheVariants.{Marker, Restrict}
 use Rattle.wt_step.specs.Links.{coarse_of}
 use Rattle.wt_step.specs.Meaning.{pieces_of}
-use Rattle.wt_step.specs.Coarse.{IsCoarseOf}
+use Rattle.wt_step.specs.Coarse.{IsDesubstitution}
 
 -- the side that a rectangle needs so that its coarse one has this side: margins and cuts are paid
 abbrev pub side_below : RawLink → ℕ → ℕ
@@ -21,9 +21,9 @@ side_below (Marker s) side = 2 * side + 2 * s.radius + 2
 side_below (Restrict s) side = side + 2 * s.radius
 
 -- The coarse pattern of a pattern with a period: it is as large as is asked, and has a period no longer, of which each part is at least half as long, and a restrict step's is the same; and its runs of cells stand for the runs of cells below, at every place.
-pub record Lowered (l : RawLink) (p : Grid) (side : ℕ) (opposed : Bool) (dx dy : ℕ) : Type 0 where
+pub record HasCoarsePeriod (l : RawLink) (p : Grid) (side : ℕ) (opposed : Bool) (dx dy : ℕ) : Type 0 where
   pub coarse : Grid
-  pub image : IsCoarseOf l p coarse
+  pub image : IsDesubstitution l p coarse
   pub pattern : IsPattern (coarse_of l).tiles coarse
   pub wide : side ≤ coarse.width
   pub high : side ≤ coarse.height

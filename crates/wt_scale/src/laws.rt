@@ -19,12 +19,12 @@ ghost use Rattle.wt_chain.specs.Faults.{chain_fault};
 ghost use Rattle.wt_chain.specs.Looped.{IsLooped, first_tiles};
 ghost use Rattle.wt_chain.specs.Sets.{AreLinked};
 ghost use Rattle.wt_chain.specs.Turns.{renamed_back, turned_times};
-ghost use Rattle.wt_chain.specs.Good.{GoodLoop};
+ghost use Rattle.wt_chain.specs.Good.{IsGoodLoop};
 ghost use Rattle.wt_step.specs.Carried.{magnitude};
 ghost use Rattle.wt_scale.specs.Loops.{loop_size, loop_pick};
 ghost use Rattle.wt_scale.specs.Vectors.{digits, size_result};
-ghost use Rattle.wt_scale.specs.Scales.{Lowered, side_below};
-ghost use Rattle.wt_scale.specs.Existence.{ValidImage, SameSized, TwiceSized, IsPatternOf, HasPattern};
+ghost use Rattle.wt_scale.specs.Scales.{HasCoarsePeriod, side_below};
+ghost use Rattle.wt_scale.specs.Existence.{HasValidImage, IsSameSized, IsTwiceSized, IsPatternOf, HasPattern};
 ghost use Rattle.wt_scale.specs.Pick.{power_for};
 
 /// Each valid coarse pattern of a good marker step has an image, and that is valid: the coarse tiles of a
@@ -42,7 +42,7 @@ pub fn images_are_valid()
 pub fn patterns_are_lowered()
     ensures { (l : RawLink) → link_fault l ≡ None → (p : Grid) (side : ℕ) (opposed : Bool) (dx dy : ℕ) → IsPattern (fine_of l).tiles p
         → side_below l side ≤ p.width → side_below l side ≤ p.height → dx + 2 ≤ side → dy + 2 ≤ side → HasVector One opposed dx dy p
-        → Lowered l p side opposed dx dy }
+        → HasCoarsePeriod l p side opposed dx dy }
 {}
 
 /// No nonzero vector is a period of a valid pattern over the first set of a good looped chain, if the pattern
@@ -58,20 +58,20 @@ pub fn large_patterns_have_no_period()
 /// Each valid coarse pattern of a good step, of either kind, has an image, and that is valid. It is no smaller
 /// than the coarse pattern, and equally large where every coarse tile stands for a single one.
 pub fn link_images_are_valid()
-    ensures { (l : RawLink) → link_fault l ≡ None → (q : Grid) → IsPattern (coarse_of l).tiles q → ValidImage l q }
+    ensures { (l : RawLink) → link_fault l ≡ None → (q : Grid) → IsPattern (coarse_of l).tiles q → HasValidImage l q }
 {}
 
 /// A valid pattern over the set that a renaming leads to is, renamed back, a valid pattern over the other set,
 /// with the same sides.
 pub fn renamed_patterns_are_valid()
-    ensures { (from to : List Tile) (list : List ℕ) → IsRenaming from to list → (g : Grid) → IsPattern to g → SameSized from g (renamed_back list g) }
+    ensures { (from to : List Tile) (list : List ℕ) → IsRenaming from to list → (g : Grid) → IsPattern to g → IsSameSized from g (renamed_back list g) }
 {}
 
 /// A valid pattern over the first set of a good loop is, after e turns, a valid pattern over the same set, and
 /// each of its sides is at least twice as long: e turns make every tile at least two cells wide and high.
 pub fn turns_double_patterns()
-    ensures { (l : RawLink) (ls : List RawLink) → AreLinked (fine_of l) (l ∷ ls) → (list : List ℕ) (e : ℕ) → GoodLoop (l ∷ ls) list e
-        → (g : Grid) → IsPattern (fine_of l).tiles g → TwiceSized (fine_of l).tiles g (turned_times (l ∷ ls) list e g) }
+    ensures { (l : RawLink) (ls : List RawLink) → AreLinked (fine_of l) (l ∷ ls) → (list : List ℕ) (e : ℕ) → IsGoodLoop (l ∷ ls) list e
+        → (g : Grid) → IsPattern (fine_of l).tiles g → IsTwiceSized (fine_of l).tiles g (turned_times (l ∷ ls) list e g) }
 {}
 
 /// The power that is found for a number n is the least k with n ≤ 2^k.

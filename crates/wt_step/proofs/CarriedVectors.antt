@@ -18,9 +18,9 @@ use Rattle.wt_step.specs.declared.borrowed.LinkRef.{LinkRef}
 use Rattle.wt_step.specs.declared.borrowed.LinkRef.TheVariants.{Marker as MarkerRef, Restrict as KeepingRef}
 use Rattle.wt_step.specs.Links.{link_fault, fine_of}
 use Rattle.wt_step.specs.Views.{link_of}
-use Rattle.wt_step.specs.Coarse.{IsCoarseOf}
-use Rattle.wt_step.specs.Good.{GoodStep}
-use Rattle.wt_step.specs.Meaning.{pieces, IsCoarse}
+use Rattle.wt_step.specs.Coarse.{IsDesubstitution}
+use Rattle.wt_step.specs.Good.{IsGoodStep}
+use Rattle.wt_step.specs.Meaning.{pieces, IsMarkerDesubstitution}
 use Rattle.wt_step.specs.Blocks.{core_at, pairs_at, one_if, ends_at}
 use Rattle.wt_step.specs.Carried.{lines_below, IsCarried, IsCount, IsCounted, IsCountedAlong, IsCountedBy, has_room_along, has_room, magnitude, with_sign, blocks_begun, in_blocks, vector_along, carried_vector}
 use Rattle.wt_step.proofs.Parsed.{the_reads}
@@ -32,9 +32,9 @@ use Rattle.wt_step.proofs.Restricted.{good_restrict}
 use Rattle.wt_step.proofs.Desubstitution.{some_coarse}
 use Rattle.wt_step.proofs.KeptPeriods.{kept_period}
 
-module _ (s : RawStep) (g : GoodStep s) (p : Grid) (v : IsPattern s.fine.tiles p) (la : 3 ≤ along s.axis (core s.radius p)) (lc : 1 ≤ across s.axis (core s.radius p)) where
+module _ (s : RawStep) (g : IsGoodStep s) (p : Grid) (v : IsPattern s.fine.tiles p) (la : 3 ≤ along s.axis (core s.radius p)) (lc : 1 ≤ across s.axis (core s.radius p)) where
   -- the blocks that begin in the lines below the first m coarse lines are m
-  count_below : (q : Grid) → IsCoarse s p q → (m : ℕ) → m ≤ along s.axis q → blocks_begun s p (lines_below s q m) ≡ m
+  count_below : (q : Grid) → IsMarkerDesubstitution s p q → (m : ℕ) → m ≤ along s.axis q → blocks_begun s p (lines_below s q m) ≡ m
   count_below q i m le =
       let wide : ℕ = across s.axis (core s.radius p) - 1 in
       let n = length_lines s.axis q in
@@ -42,19 +42,19 @@ module _ (s : RawStep) (g : GoodStep s) (p : Grid) (v : IsPattern s.fine.tiles p
       (along s.axis (core s.radius p) - (one_if (ends_at s p 0) + one_if (not (ends_at s p (along s.axis (core s.radius p) - 1))))) (one_if (ends_at s p 0)) (lines s.axis q)
       (the_reads s g p v la wide (omega arith) (lines s.axis q) i) m (omega arith)
 
-  only_count : (q : Grid) → IsCoarse s p q → (m d : ℕ) → m ≤ along s.axis q → lines_below s q m ≡ d → m ≡ blocks_begun s p d
+  only_count : (q : Grid) → IsMarkerDesubstitution s p q → (m d : ℕ) → m ≤ along s.axis q → lines_below s q m ≡ d → m ≡ blocks_begun s p d
   only_count q i m d le e = sym (count_below q i m le) ∙ ap (blocks_begun s p) e
 
-module _ (s : RawStep) (g : GoodStep s) (p : Grid) (v : IsPattern s.fine.tiles p) (x y : ℤ)
+module _ (s : RawStep) (g : IsGoodStep s) (p : Grid) (v : IsPattern s.fine.tiles p) (x y : ℤ)
     (la : magnitude x + 3 ≤ along s.axis (core s.radius p)) (lc : magnitude y + 1 ≤ across s.axis (core s.radius p)) (h : IsPeriodAlong s.axis p x y) where
-  pub count_carried : (q : Grid) → IsGrid q → IsCoarse s p q → IsCarried s (are_opposed x y) (magnitude x) (magnitude y) (blocks_begun s p (magnitude x)) q
+  pub count_carried : (q : Grid) → IsGrid q → IsMarkerDesubstitution s p q → IsCarried s (are_opposed x y) (magnitude x) (magnitude y) (blocks_begun s p (magnitude x)) q
   count_carried q iq i =
       let k = carried s g p q v iq i (are_opposed x y) (magnitude x) (magnitude y) la (omega arith) (to_vector s.axis p x y h) in
       let few = k.1.few in
       let e : k.0 ≡ blocks_begun s p (magnitude x) = only_count s g p v (omega arith) (omega arith) q i k.0 (magnitude x) few (k.1.filled 0 (omega arith)) in
       subst (λ (n : ℕ). IsCarried s (are_opposed x y) (magnitude x) (magnitude y) n q) e k.1
 
-  pub is_count : (q : Grid) → IsGrid q → IsCoarse s p q → IsCount s q (magnitude x) (blocks_begun s p (magnitude x))
+  pub is_count : (q : Grid) → IsGrid q → IsMarkerDesubstitution s p q → IsCount s q (magnitude x) (blocks_begun s p (magnitude x))
   is_count q iq i =
       let k = count_carried q iq i in
       let few = k.few in
@@ -64,7 +64,7 @@ module _ (s : RawStep) (g : GoodStep s) (p : Grid) (v : IsPattern s.fine.tiles p
         only = λ m le e. only_count s g p v (omega arith) (omega arith) q i m (magnitude x) le e;
       }
 
-  pub carried_period : (q : Grid) → IsGrid q → IsCoarse s p q → IsPeriodAlong s.axis q (with_sign x (blocks_begun s p (magnitude x))) y
+  pub carried_period : (q : Grid) → IsGrid q → IsMarkerDesubstitution s p q → IsPeriodAlong s.axis q (with_sign x (blocks_begun s p (magnitude x))) y
   carried_period q iq i = from_vector s.axis q x y (blocks_begun s p (magnitude x)) (count_carried q iq i).vector
 
 -- ---- vectors of rectangles, read along an axis
@@ -132,13 +132,13 @@ module _ (s : RawStep) (p : Grid) where
   zero_along One dx dy h = (h, same_zero dy)
   zero_along Two dx dy h = (same_zero dx, h)
 
-module _ (s : RawStep) (g : GoodStep s) (p : Grid) (v : IsPattern s.fine.tiles p) (dx dy : ℤ) (h : IsPeriod p dx dy) (room : has_room_along s.axis (core s.radius p) dx dy ≡ true) where
-  marker_value : (q : Grid) → IsGrid q → IsCoarse s p q → IsCountedAlong s.axis s q dx dy (vector_along s.axis s p dx dy)
+module _ (s : RawStep) (g : IsGoodStep s) (p : Grid) (v : IsPattern s.fine.tiles p) (dx dy : ℤ) (h : IsPeriod p dx dy) (room : has_room_along s.axis (core s.radius p) dx dy ≡ true) where
+  marker_value : (q : Grid) → IsGrid q → IsMarkerDesubstitution s p q → IsCountedAlong s.axis s q dx dy (vector_along s.axis s p dx dy)
   marker_value q iq i =
       let r = room_along s.axis (core s.radius p) dx dy room in
       value_along s p q s.axis dx dy (is_count s g p v (part s.axis dx dy) (rest s.axis dx dy) r.0 r.1 (period_along s.axis p dx dy h) q iq i)
 
-  marker_period : (q : Grid) → IsGrid q → IsCoarse s p q → IsPeriod q (vector_along s.axis s p dx dy).0 (vector_along s.axis s p dx dy).1
+  marker_period : (q : Grid) → IsGrid q → IsMarkerDesubstitution s p q → IsPeriod q (vector_along s.axis s p dx dy).0 (vector_along s.axis s p dx dy).1
   marker_period q iq i =
       let r = room_along s.axis (core s.radius p) dx dy room in
       same_period s p q s.axis dx dy (carried_period s g p v (part s.axis dx dy) (rest s.axis dx dy) r.0 r.1 (period_along s.axis p dx dy h) q iq i)
@@ -165,12 +165,12 @@ is_good (MarkerRef s) = s.good
 is_good (KeepingRef s) = s.good
 
 module _ (p : Grid) (dx dy : ℤ) (h : IsPeriod p dx dy) where
-  pub value : (l : RawLink) → link_fault l ≡ None → IsPattern (fine_of l).tiles p → has_room l p dx dy ≡ true → (q : Grid) → IsGrid q → IsCoarseOf l p q → IsCountedBy l q dx dy (carried_vector l p dx dy)
+  pub value : (l : RawLink) → link_fault l ≡ None → IsPattern (fine_of l).tiles p → has_room l p dx dy ≡ true → (q : Grid) → IsGrid q → IsDesubstitution l p q → IsCountedBy l q dx dy (carried_vector l p dx dy)
   unfolding link_fault
   value (Marker s) e v room q iq i = marker_value s (good_step s e) p v dx dy h room q iq i
   value (Restrict s) e v room q iq i = refl
 
-  pub period : (l : RawLink) → link_fault l ≡ None → IsPattern (fine_of l).tiles p → has_room l p dx dy ≡ true → (q : Grid) → IsGrid q → IsCoarseOf l p q
+  pub period : (l : RawLink) → link_fault l ≡ None → IsPattern (fine_of l).tiles p → has_room l p dx dy ≡ true → (q : Grid) → IsGrid q → IsDesubstitution l p q
       → IsPeriod q (carried_vector l p dx dy).0 (carried_vector l p dx dy).1
   unfolding link_fault
   period (Marker s) e v room q iq i = marker_period s (good_step s e) p v dx dy h room q iq i

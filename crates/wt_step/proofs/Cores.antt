@@ -20,7 +20,7 @@ use Rattle.wt_step.specs.Words.{allows, is_barred, entry_at, times, entry_fits}
 use Rattle.wt_refute.specs.Entries.{is_entry, entry_before, entries_follow}
 use Rattle.wt_grid.specs.Pairs.{is_this_pair}
 use Rattle.wt_step.specs.Faults.{tree_fault_at, tree_answer}
-use Rattle.wt_step.specs.Good.{GoodStep}
+use Rattle.wt_step.specs.Good.{IsGoodStep}
 use Rattle.wt_step.specs.Meaning.{allowing}
 use Rattle.wt_refute.proofs.Faults.{all_empty}
 use Rattle.wt_pattern.specs.Windows.{IsEmptyWindow}
@@ -75,7 +75,7 @@ axis_same One Two e = absurd (cc e)
 axis_same Two One e = absurd (cc e)
 axis_same Two Two e = refl
 
-module _ (s : RawStep) (g : GoodStep s) where
+module _ (s : RawStep) (g : IsGoodStep s) where
   pub known_entry : (i : ℕ) (k : Refuted) → slice_get s.refuted i ≡ Some k → entry_at s k.axis k.a k.b k.radius ≡ Some k
   known_entry i k e = found (entry_before k.radius k.axis k.a k.b) (is_entry k.radius k.axis k.a k.b) s.refuted i k
       (entries_split k.radius k.axis k.a k.b s.refuted (refuted_ascend s g.shaped)) e (entry_itself k)

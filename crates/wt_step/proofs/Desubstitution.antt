@@ -23,9 +23,9 @@ use Rattle.wt_grid.proofs.Grids.{length_lines, long_lines, filled_long}
 use Rattle.wt_grid.proofs.Runs.{same_blocks_of}
 use Rattle.wt_step.specs.declared.raw.RawStep.{RawStep}
 use Rattle.wt_step.specs.Words.{allows, is_marker, image_at, image_fits, images_match, pieces_match}
-use Rattle.wt_step.specs.Good.{GoodStep}
+use Rattle.wt_step.specs.Good.{IsGoodStep}
 use Rattle.wt_morphism.specs.Images.{piece}
-use Rattle.wt_step.specs.Meaning.{allowing, pieces, IsCoarse}
+use Rattle.wt_step.specs.Meaning.{allowing, pieces, IsMarkerDesubstitution}
 use Rattle.wt_pattern.specs.Patterns.{IsPattern}
 use Rattle.wt_step.proofs.Tables.{good_table, some_of, same_itself, not_other}
 use Rattle.wt_step.proofs.Cores.{core_allowed}
@@ -49,7 +49,7 @@ matched_pieces ts axis (Single a) (Double c d) m = absurd m
 matched_pieces ts axis (Double a b) (Single c) m = absurd m
 matched_pieces ts axis (Double a b) (Double c d) m = rw (m.0, m.1) refl
 
-module _ (s : RawStep) (g : GoodStep s) where
+module _ (s : RawStep) (g : IsGoodStep s) where
   pub count_images : length s.images ≡ length s.coarse.tiles
   count_images = let e = (and_parts (nat_eq (length s.images) (length s.coarse.tiles)) (list_all (image_fits (length s.fine.tiles)) s.images) g.shaped.images).0 in grind (arith, nat_tests, e)
 
@@ -93,7 +93,7 @@ module _ (s : RawStep) (g : GoodStep s) where
 
   -- Each valid rectangle has a coarse one inside its core, and that is valid.
   pub some_coarse : (c : Grid) → IsPattern s.fine.tiles c → 3 ≤ along s.axis (core s.radius c) → 1 ≤ across s.axis (core s.radius c)
-      → (q : Grid) × IsCoarse s c q × IsPattern s.coarse.tiles q
+      → (q : Grid) × IsMarkerDesubstitution s c q × IsPattern s.coarse.tiles q
   some_coarse c p la lc =
       let r = some_grid s.axis s.side (allowing s) (matches s.fine.tiles) (matches s.coarse.tiles) (is_marker s) (pieces s) the_table the_joins the_stacks
       (core s.radius c) (core_allowed s g c p.1 p.2) (core_valid (matches s.fine.tiles) s.radius c p.2) la lc in
@@ -101,12 +101,12 @@ module _ (s : RawStep) (g : GoodStep s) where
       (r.0, r.3, (r.1, subst (λ (n : ℕ). AllBelow n r.0) n r.2, r.4))
 
   -- And no other.
-  pub one_coarse : (c q r : Grid) → 1 ≤ across s.axis (core s.radius c) → IsGrid q → IsGrid r → IsCoarse s c q → IsCoarse s c r → q ≡ r
+  pub one_coarse : (c q r : Grid) → 1 ≤ across s.axis (core s.radius c) → IsGrid q → IsGrid r → IsMarkerDesubstitution s c q → IsMarkerDesubstitution s c r → q ≡ r
   one_coarse c q r lc iq ir i j =
       one_grid s.axis s.side (allowing s) (matches s.fine.tiles) (matches s.coarse.tiles) (is_marker s) (pieces s) the_table the_joins the_stacks (core s.radius c) q r lc iq ir i j
 
   -- Of any other coarse rectangle whose image is a run of lines of the core, each block but the one at the open end is a block of that one, at the same lines.
-  pub same_blocks : (c q r : Grid) → 1 ≤ across s.axis (core s.radius c) → IsGrid r → IsCoarse s c q
+  pub same_blocks : (c q r : Grid) → 1 ≤ across s.axis (core s.radius c) → IsGrid r → IsMarkerDesubstitution s c q
       → (front run back : List (List ℕ)) → lines s.axis (core s.radius c) ≡ front ++ (run ++ back) → IsImage (pieces s) (lines s.axis r) run
       → (qa : List (List ℕ)) × (qb : List (List ℕ)) × (lines s.axis q ≡ qa ++ (closed s.side (lines s.axis r) ++ qb))
       × Fills s.side (is_marker s) (pieces s) qa qb front back

@@ -18,7 +18,7 @@ use Rattle.wt_step.specs.declared.raw.StepFault.TheVariants.{Radius, Fine, Coars
 use Rattle.wt_step.specs.Words.{same_image, allowed, is_barred, is_block, image_at, images_match}
 use Rattle.wt_grid.specs.Pairs.{is_this_pair}
 use Rattle.wt_step.specs.Faults.{unless, shape_fault, markers_fit, allowed_fit, refuted_fit, images_fit, is_named_well, trees_fault, pair_fault, row_fault, pairs_fault, is_marked_well, marker_fault_at, marker_fault, is_good_image, image_fault_at, image_fault, is_demanded, missing_tile_at, missing_tile, missing_pair_at, missing_pair, join_fault_at, join_row, join_fault, rules_fault, step_fault}
-use Rattle.wt_step.specs.Good.{GoodStep}
+use Rattle.wt_step.specs.Good.{IsGoodStep}
 use Rattle.wt_step.proofs.Shaped.{holds, shaped}
 
 pub none_both : {A : Type 0} (a b : Option A) → a ≡ None → b ≡ None → or_else a b ≡ None
@@ -88,7 +88,7 @@ module _ (s : RawStep) where
   by_axis P o t Two = t
 
   module _ (n : shape_fault s ≡ None) where
-    rules_good : rules_fault s ≡ None → GoodStep s
+    rules_good : rules_fault s ≡ None → IsGoodStep s
     unfolding rules_fault
     rules_good e =
         let p1 = neither (pairs_fault s One) _ e in
@@ -125,12 +125,12 @@ module _ (s : RawStep) where
               (join_good axis (by_axis (λ x. join_fault s x ≡ None) jo.0 jo.1 axis) i j li lj));
         }
 
-pub good_step : (s : RawStep) → step_fault s ≡ None → GoodStep s
+pub good_step : (s : RawStep) → step_fault s ≡ None → IsGoodStep s
 unfolding step_fault
 good_step s e = let n = neither (shape_fault s) (rules_fault s) e in rules_good s n.0 n.1
 
 -- and back
-module _ (s : RawStep) (g : GoodStep s) where
+module _ (s : RawStep) (g : IsGoodStep s) where
   no_shape : shape_fault s ≡ None
   unfolding shape_fault
   no_shape =

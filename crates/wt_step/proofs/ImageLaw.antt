@@ -21,7 +21,7 @@ use Rattle.wt_grid.proofs.ImageGrids.{valid_image}
 use Rattle.wt_step.specs.declared.raw.RawStep.{RawStep}
 use Rattle.wt_step.specs.Words.{allows, is_block, image_at, image_fits, images_match, pieces_match, times}
 use Rattle.wt_step.specs.Faults.{is_good_image}
-use Rattle.wt_step.specs.Good.{GoodStep}
+use Rattle.wt_step.specs.Good.{IsGoodStep}
 use Rattle.wt_morphism.specs.Images.{piece}
 use Rattle.wt_step.specs.Meaning.{pieces}
 use Rattle.wt_step.proofs.Tables.{same_itself, not_other, in_range}
@@ -56,7 +56,7 @@ not_barred : (m a : Bool) (n : Bool) (t0 t1 : Bool) → a ≡ true → (if m && 
 not_barred true a n t0 t1 e h = refl
 not_barred false a n t0 t1 e h = absurd (let k = rw e at h in cc k)
 
-module _ (s : RawStep) (g : GoodStep s) where
+module _ (s : RawStep) (g : IsGoodStep s) where
   -- an allowed pair matches
   pub allowed_match : (axis : Axis) (a b : ℕ) → allows s axis a b ≡ true → matches s.fine.tiles axis a b ≡ true
   allowed_match axis a b h =

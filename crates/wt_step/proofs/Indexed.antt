@@ -10,7 +10,7 @@ use Rattle.std.proofs.lemmas.Nat.{div-mul-add, mod-mul-add, mul-add-lt}
 use Rattle.wt_tile.proofs.Sizes.{few_tiles}
 use Rattle.wt_step.specs.declared.raw.RawStep.{RawStep}
 use Rattle.wt_step.specs.Words.{image_fits, image_at}
-use Rattle.wt_step.specs.Good.{GoodStep}
+use Rattle.wt_step.specs.Good.{IsGoodStep}
 use Rattle.wt_step.specs.Blocks.{IsIndexed, note_single, note_pair}
 use Rattle.wt_step.proofs.Tables.{some_of, one_image}
 
@@ -34,7 +34,7 @@ same_place n a b c d lb ld e = (
   sym (mod-mul-add a n b lb) ∙ (ap (λ (x : ℕ). x % n) e ∙ mod-mul-add c n d ld),
 )
 
-pub good_sizes : (s : RawStep) → GoodStep s → (length s.fine.tiles ≤ 256) × (length s.images ≤ 256) × (length s.images ≡ length s.coarse.tiles)
+pub good_sizes : (s : RawStep) → IsGoodStep s → (length s.fine.tiles ≤ 256) × (length s.images ≤ 256) × (length s.images ≡ length s.coarse.tiles)
 good_sizes s g =
     let e = (and_parts (nat_eq (length s.images) (length s.coarse.tiles)) (list_all (image_fits (length s.fine.tiles)) s.images) g.shaped.images).0 in
     let same : length s.images ≡ length s.coarse.tiles = grind (arith, nat_tests, e) in
@@ -43,10 +43,10 @@ good_sizes s g =
     let le = c.1 in
     (f.1, omega arith, same)
 
-pub fits_at : (s : RawStep) → GoodStep s → (i : ℕ) → i < length s.images → image_fits (length s.fine.tiles) (image_at s i) ≡ true
+pub fits_at : (s : RawStep) → IsGoodStep s → (i : ℕ) → i < length s.images → image_fits (length s.fine.tiles) (image_at s i) ≡ true
 fits_at s g i lt = each_of (image_fits (length s.fine.tiles)) s.images i (Single 0) (and_parts (nat_eq (length s.images) (length s.coarse.tiles)) (list_all (image_fits (length s.fine.tiles)) s.images) g.shaped.images).1 lt
 
-module _ (s : RawStep) (g : GoodStep s) (k : ℕ) (lk : k < length s.images) (singles pairs : List ℕ) (h : IsIndexed s.images (length s.fine.tiles) k singles pairs) where
+module _ (s : RawStep) (g : IsGoodStep s) (k : ℕ) (lk : k < length s.images) (singles pairs : List ℕ) (h : IsIndexed s.images (length s.fine.tiles) k singles pairs) where
   fitting : (i : ℕ) (x : Image) → slice_get s.images i ≡ Some x → image_fits (length s.fine.tiles) x ≡ true
   fitting i x e = let r = some_of s.images i x (Single 0) e in subst (λ (y : Image). image_fits (length s.fine.tiles) y ≡ true) r.1 (fits_at s g i r.0)
 

@@ -10,7 +10,7 @@ use Rattle.wt_grid.proofs.First.{count_none}
 use Rattle.wt_step.specs.declared.raw.RawStep.{RawStep}
 use Rattle.wt_step.specs.Words.{entry_at, times}
 use Rattle.wt_refute.specs.Entries.{is_entry, entry_before}
-use Rattle.wt_step.specs.Good.{GoodStep}
+use Rattle.wt_step.specs.Good.{IsGoodStep}
 use Rattle.wt_refute.proofs.Entries.{entries_split}
 use Rattle.wt_step.proofs.Shaped.{refuted_ascend}
 use Rattle.wt_step.proofs.Cores.{above_at, known_entry, named_barred, fits_entry, entry_itself}
@@ -56,7 +56,7 @@ module _ {A : Type 0} (f : ℕ → Option A) where
       go None h (inr le) r c = absurd (let same : i ≡ p = omega arith in let n = ap f same ∙ e in cc (n, h))
       go (Some x) h d r c = rw h (omega arith)
 
-module _ (s : RawStep) (g : GoodStep s) where
+module _ (s : RawStep) (g : IsGoodStep s) where
   same_radius : (axis : Axis) (a b p q : ℕ) (k l : Refuted) → times s axis a b ≡ 1 → p ≤ s.radius → q ≤ s.radius → entry_at s axis a b p ≡ Some k → entry_at s axis a b q ≡ Some l → p ≡ q
   same_radius axis a b p q k l one lp lq e f = elim (cases_lt p q) [
     | inl lt ↦ absurd (let c = two_counted (entry_at s axis a b) 0 (s.radius + 1) p q k l (omega arith) lt (omega arith) e f in omega arith)

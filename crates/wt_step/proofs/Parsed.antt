@@ -16,8 +16,8 @@ use Rattle.wt_pattern.specs.Patterns.{IsPattern}
 use Rattle.wt_step.specs.declared.raw.RawStep.{RawStep}
 use Rattle.wt_step.specs.declared.blocks.Block.{Block}
 use Rattle.wt_step.specs.Words.{is_marker, ends_block}
-use Rattle.wt_step.specs.Good.{GoodStep}
-use Rattle.wt_step.specs.Meaning.{pieces, IsCoarse}
+use Rattle.wt_step.specs.Good.{IsGoodStep}
+use Rattle.wt_step.specs.Meaning.{pieces, IsMarkerDesubstitution}
 use Rattle.wt_step.specs.Coarse.{is_marked}
 use Rattle.wt_step.specs.Blocks.{core_at, is_marked_line, pairs_at, blocks_in, block_tile, block_at, coarse_at, coarse_grid, one_if, ends_at, IsIndexed}
 use Rattle.wt_step.proofs.Desubstitution.{some_coarse}
@@ -42,7 +42,7 @@ module _ (s : RawStep) (p : Grid) (ones twos : List ℕ) (bs : List Block) (m : 
       same_cells (grid_of m (length bs) (coarse_at s p ones twos bs Two)) q (grid_grid m (length bs) (coarse_at s p ones twos bs Two) some lines_some) iq (sym h) (sym w)
       (λ x y lx ly. cell_of m (length bs) x y (coarse_at s p ones twos bs Two) lx ly ∙ sym (e y x ly lx))
 
-module _ (s : RawStep) (g : GoodStep s) (p : Grid) where
+module _ (s : RawStep) (g : IsGoodStep s) (p : Grid) where
   -- a cell of the core
   core_cell : (i j : ℕ) → i < along s.axis (core s.radius p) → j < across s.axis (core s.radius p) → at s.axis (core s.radius p) i j ≡ core_at s p i j
   core_cell i j li lj =
@@ -95,16 +95,16 @@ module _ (s : RawStep) (g : GoodStep s) (p : Grid) where
 
     module _ (bs : List Block) (eb : bs ≡ blocks_in (pairs_at s p) false (one_if low) (n - (one_if low + one_if high))) (ones twos : List ℕ)
         (index : IsIndexed s.images (length s.fine.tiles) (length s.images) ones twos) where
-      law : (q : Grid) × IsCoarse s p q × IsPattern s.coarse.tiles q
+      law : (q : Grid) × IsMarkerDesubstitution s p q × IsPattern s.coarse.tiles q
       law = some_coarse s g p h la (omega arith)
 
-      read : (q : Grid) → IsCoarse s p q → Reads (pieces s) (λ i. listed (suc m) (core_at s p i)) bs (lines s.axis q)
+      read : (q : Grid) → IsMarkerDesubstitution s p q → Reads (pieces s) (λ i. listed (suc m) (core_at s p i)) bs (lines s.axis q)
       read q i = subst (λ (cs : List Block). Reads (pieces s) (λ i. listed (suc m) (core_at s p i)) cs (lines s.axis q)) (sym eb) (the_reads (lines s.axis q) i)
 
-      as_long : (q : Grid) → IsCoarse s p q → along s.axis q ≡ length bs
+      as_long : (q : Grid) → IsMarkerDesubstitution s p q → along s.axis q ≡ length bs
       as_long q i = sym (length-reads (pieces s) (λ i. listed (suc m) (core_at s p i)) bs (lines s.axis q) (read q i) ∙ length_lines s.axis q)
 
-      as_wide : (q : Grid) → IsGrid q → IsCoarse s p q → across s.axis q ≡ suc m
+      as_wide : (q : Grid) → IsGrid q → IsMarkerDesubstitution s p q → across s.axis q ≡ suc m
       as_wide q iq i =
           let long = cut_long s.side (across s.axis (core s.radius p)) (is_marker s) (lines s.axis (core s.radius p)) (long_lines s.axis (core s.radius p)) in
           let k = long_coarse (pieces s) (across s.axis (core s.radius p)) (lines s.axis q) (cut s.side (is_marker s) (lines s.axis (core s.radius p))) i long in
@@ -116,7 +116,7 @@ module _ (s : RawStep) (g : GoodStep s) (p : Grid) where
       some_blocks = let q = law in let pat : IsPattern s.coarse.tiles q.0 = q.2 in let e = as_long q.0 q.1 in let w = wide_along s.axis q.0 pat.0 in omega arith
 
       -- the rectangle of the blocks is the coarse one of the law
-      pub parsed : IsCoarse s p (coarse_grid s p ones twos bs s.axis (suc m)) × IsPattern s.coarse.tiles (coarse_grid s p ones twos bs s.axis (suc m))
+      pub parsed : IsMarkerDesubstitution s p (coarse_grid s p ones twos bs s.axis (suc m)) × IsPattern s.coarse.tiles (coarse_grid s p ones twos bs s.axis (suc m))
       parsed =
           let q = law in
           let pat : IsPattern s.coarse.tiles q.0 = q.2 in
@@ -125,9 +125,9 @@ module _ (s : RawStep) (g : GoodStep s) (p : Grid) where
           let w = as_wide q.0 iq q.1 in
           let same : coarse_grid s p ones twos bs s.axis (suc m) ≡ q.0 = same_grid s p ones twos bs (suc m) (omega arith) some_blocks s.axis q.0 iq l w
           (λ i j li lj. sym (line_cell s.axis q.0 i j (omega arith) (omega arith)) ∙ tiles s g p (suc m) ones twos index bs (lines s.axis q.0) (read q.0 q.1) i j li lj) in
-          subst (λ (r : Grid). IsCoarse s p r × IsPattern s.coarse.tiles r) (sym same) (q.1, pat)
+          subst (λ (r : Grid). IsMarkerDesubstitution s p r × IsPattern s.coarse.tiles r) (sym same) (q.1, pat)
 
-module _ (s : RawStep) (g : GoodStep s) (p : Grid) (h : IsPattern s.fine.tiles p) (la : 3 ≤ along s.axis (core s.radius p)) (bs : List Block) where
+module _ (s : RawStep) (g : IsGoodStep s) (p : Grid) (h : IsPattern s.fine.tiles p) (la : 3 ≤ along s.axis (core s.radius p)) (bs : List Block) where
   pub some_blocks_of : (k : ℕ) → across s.axis (core s.radius p) ≡ k → 1 ≤ k
       → bs ≡ blocks_in (pairs_at s p) false (one_if (low s g p)) (along s.axis (core s.radius p) - (one_if (low s g p) + one_if (high s g p)))
       → (ones twos : List ℕ) → IsIndexed s.images (length s.fine.tiles) (length s.images) ones twos → 1 ≤ length bs
@@ -137,21 +137,21 @@ module _ (s : RawStep) (g : GoodStep s) (p : Grid) (h : IsPattern s.fine.tiles p
   pub parsed_of : (k : ℕ) → across s.axis (core s.radius p) ≡ k → 1 ≤ k
       → bs ≡ blocks_in (pairs_at s p) false (one_if (low s g p)) (along s.axis (core s.radius p) - (one_if (low s g p) + one_if (high s g p)))
       → (ones twos : List ℕ) → IsIndexed s.images (length s.fine.tiles) (length s.images) ones twos
-      → IsCoarse s p (coarse_grid s p ones twos bs s.axis k) × IsPattern s.coarse.tiles (coarse_grid s p ones twos bs s.axis k)
+      → IsMarkerDesubstitution s p (coarse_grid s p ones twos bs s.axis k) × IsPattern s.coarse.tiles (coarse_grid s p ones twos bs s.axis k)
   parsed_of zero e le eb ones twos index = absurd (omega arith)
   parsed_of (suc m) e le eb ones twos index = parsed s g p h la m e bs eb ones twos index
 
 -- whether a line of the core is one of markers
-pub marked_same : (s : RawStep) (g : GoodStep s) (p : Grid) (i : ℕ) → i < along s.axis (core s.radius p) → 1 ≤ across s.axis (core s.radius p) → is_marked_line s p i ≡ is_marked s p i
+pub marked_same : (s : RawStep) (g : IsGoodStep s) (p : Grid) (i : ℕ) → i < along s.axis (core s.radius p) → 1 ≤ across s.axis (core s.radius p) → is_marked_line s p i ≡ is_marked s p i
 marked_same s g p i li lj = ap (is_marker s) (sym (core_cell s g p i 0 li (omega arith)))
 
 -- what the code makes of its blocks
-pub taken : (s : RawStep) (g : GoodStep s) (p : Grid) → IsPattern s.fine.tiles p → 3 ≤ along s.axis (core s.radius p)
+pub taken : (s : RawStep) (g : IsGoodStep s) (p : Grid) → IsPattern s.fine.tiles p → 3 ≤ along s.axis (core s.radius p)
     → (k : ℕ) → across s.axis (core s.radius p) ≡ k → 1 ≤ k → (bs : List Block) (lo hi : Bool)
     → lo ≡ ends_at s p 0 → hi ≡ not (ends_at s p (along s.axis (core s.radius p) - 1))
     → bs ≡ blocks_in (pairs_at s p) false (one_if lo) (along s.axis (core s.radius p) - (one_if lo + one_if hi))
     → (ones twos : List ℕ) → IsIndexed s.images (length s.fine.tiles) (length s.images) ones twos → (q : Grid) → q ≡ coarse_grid s p ones twos bs s.axis k
-    → IsCoarse s p q × IsPattern s.coarse.tiles q
+    → IsMarkerDesubstitution s p q × IsPattern s.coarse.tiles q
 taken s g p h la k ek lk bs lo hi el eh eb ones twos index q eq =
     let r = parsed_of s g p h la bs k ek lk (rw (el, eh) at eb) ones twos index in
-    subst (λ (q : Grid). IsCoarse s p q × IsPattern s.coarse.tiles q) (sym eq) r
+    subst (λ (q : Grid). IsMarkerDesubstitution s p q × IsPattern s.coarse.tiles q) (sym eq) r

@@ -11,8 +11,8 @@ use Rattle.wt_grid.specs.Shifts.{HasVector}
 use Rattle.wt_grid.proofs.CarriedGrids.{core_repeated, carried_grid}
 use Rattle.wt_step.specs.declared.raw.RawStep.{RawStep}
 use Rattle.wt_step.specs.Words.{allows, is_marker}
-use Rattle.wt_step.specs.Good.{GoodStep}
-use Rattle.wt_step.specs.Meaning.{allowing, pieces, IsCoarse}
+use Rattle.wt_step.specs.Good.{IsGoodStep}
+use Rattle.wt_step.specs.Meaning.{allowing, pieces, IsMarkerDesubstitution}
 use Rattle.wt_step.specs.Carried.{IsCarried}
 use Rattle.wt_step.proofs.Cores.{core_allowed}
 use Rattle.wt_step.proofs.Tables.{good_table}
@@ -26,11 +26,11 @@ lag true e n lt le = le
 lag false e n lt le = lt
 
 -- the table of a good step, said with the axes of rectangles
-pub the_table : (s : RawStep) → GoodStep s → IsGood (step_table s.side (allowing s s.axis) (allowing s (other s.axis)) (is_marker s) (pieces s))
+pub the_table : (s : RawStep) → IsGoodStep s → IsGood (step_table s.side (allowing s s.axis) (allowing s (other s.axis)) (is_marker s) (pieces s))
 the_table s g =
     (good_table s g)
 
-pub carried : (s : RawStep) → GoodStep s → (p q : Grid) → IsPattern s.fine.tiles p → IsGrid q → IsCoarse s p q → (opposed : Bool) (d e : ℕ)
+pub carried : (s : RawStep) → IsGoodStep s → (p q : Grid) → IsPattern s.fine.tiles p → IsGrid q → IsMarkerDesubstitution s p q → (opposed : Bool) (d e : ℕ)
     → d + 3 ≤ along s.axis (core s.radius p) → e < across s.axis (core s.radius p) → HasVector s.axis opposed d e p → (n : ℕ) × IsCarried s opposed d e n q
 carried s g p q v iq i opposed d e la lc h =
     let a = s.axis in

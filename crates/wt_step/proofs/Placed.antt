@@ -16,8 +16,8 @@ use Rattle.wt_grid.proofs.SingleImages.{stand_image}
 use Rattle.wt_pattern.specs.Patterns.{IsPattern}
 use Rattle.wt_step.specs.declared.raw.RawRestrict.{RawRestrict}
 use Rattle.wt_step.specs.Restrict.{kept_at}
-use Rattle.wt_step.specs.Good.{GoodRestrict}
-use Rattle.wt_step.specs.Meaning.{kept_pieces, IsKept}
+use Rattle.wt_step.specs.Good.{IsGoodRestrict}
+use Rattle.wt_step.specs.Meaning.{kept_pieces, IsRestrictDesubstitution}
 use Rattle.wt_step.specs.Blocks.{cell_at, kept_tile, IsPlaced}
 use Rattle.wt_step.proofs.Restricted.{core_kept, kept_place, kept_once, count_kept, some_kept, one_kept}
 use Rattle.wt_step.proofs.Tables.{some_of}
@@ -36,7 +36,7 @@ there [] i lt = absurd (omega arith)
 there (x ∷ xs) zero lt = refl
 there (x ∷ xs) (suc i) lt = there xs i (omega arith)
 
-pub kept_sizes : (s : RawRestrict) → GoodRestrict s → (length s.fine.tiles ≤ 256) × (length s.kept ≤ 256)
+pub kept_sizes : (s : RawRestrict) → IsGoodRestrict s → (length s.fine.tiles ≤ 256) × (length s.kept ≤ 256)
 kept_sizes s g =
     let same = count_kept s g in
     let f = few_tiles s.fine g.sorted.fine in
@@ -44,7 +44,7 @@ kept_sizes s g =
     let le = c.1 in
     (f.1, omega arith)
 
-module _ (s : RawRestrict) (g : GoodRestrict s) where
+module _ (s : RawRestrict) (g : IsGoodRestrict s) where
   kept_below : (i a : ℕ) → slice_get s.kept i ≡ Some a → a < length s.fine.tiles
   kept_below i a e = each_below (length s.fine.tiles) s.kept i a (and_parts (in_order (is_below (length s.fine.tiles)) comes_before s.kept) (nat_eq (length s.kept) (length s.coarse.tiles)) g.sorted.kept).0 e
 
@@ -88,7 +88,7 @@ module _ (s : RawRestrict) (g : GoodRestrict s) where
     abbrev it : Grid
     it = grid_of (core s.radius p).width (core s.radius p).height (kept_tile s p places)
 
-    kept : IsKept s p it
+    kept : IsRestrictDesubstitution s p it
     kept = stand_image (kept_pieces s) One it (core s.radius p) (
       refl,
       refl,
@@ -97,7 +97,7 @@ module _ (s : RawRestrict) (g : GoodRestrict s) where
     )
 
     -- the rectangle of the places is the coarse one of the law
-    pub placed_kept : IsKept s p it × IsPattern s.coarse.tiles it
+    pub placed_kept : IsRestrictDesubstitution s p it × IsPattern s.coarse.tiles it
     placed_kept =
         let q = some_kept s g p h lw lh in
         let pat : IsPattern s.coarse.tiles q.0 = q.2 in

@@ -11,7 +11,7 @@ use Rattle.wt_grid.proofs.Bridge.{get_or-listed, length-listed}
 use Rattle.wt_step.specs.declared.raw.RawStep.{RawStep}
 use Rattle.wt_step.specs.declared.blocks.Block.{Block}
 use Rattle.wt_step.specs.Words.{is_marker, joined}
-use Rattle.wt_step.specs.Good.{GoodStep}
+use Rattle.wt_step.specs.Good.{IsGoodStep}
 use Rattle.wt_morphism.specs.Images.{piece}
 use Rattle.wt_step.specs.Meaning.{pieces}
 use Rattle.wt_step.specs.Blocks.{core_at, blocks_in, block_tile, block_at, IsIndexed}
@@ -63,7 +63,7 @@ length-reads im line [] (q ∷ qs) r = absurd r
 length-reads im line (b ∷ bs) [] r = absurd r
 length-reads im line (b ∷ bs) (q ∷ qs) r = ap suc (length-reads im line bs qs r.1)
 
-module _ (s : RawStep) (g : GoodStep s) where
+module _ (s : RawStep) (g : IsGoodStep s) where
   single_first : (q : List ℕ) (a : ℕ) (u : List ℕ) → Singles (pieces s) q (a ∷ u) → is_marker s a ≡ false
   single_first [] a u h = absurd h
   single_first (k ∷ ks) a u h = singles s g k a h.0

@@ -30,8 +30,8 @@ use Rattle.wt_step.specs.declared.raw.RawRestrict.{RawRestrict}
 use Rattle.wt_step.specs.declared.raw.StepFault.TheVariants.{Radius, Fine, Coarse, Kept, LostList, LostNode, Join}
 use Rattle.wt_step.specs.Faults.{unless}
 use Rattle.wt_step.specs.Restrict.{kept_fit, lost_fit, is_kept, is_lost, loses, sorted_fault_at, lost_fault, lost_fault_at, kept_at, kept_match, kept_join_at, kept_join_row, kept_join_fault, sorting_fault, use_fault, restrict_fault}
-use Rattle.wt_step.specs.Good.{GoodRestrict}
-use Rattle.wt_step.specs.Meaning.{kept_pieces, IsKept}
+use Rattle.wt_step.specs.Good.{IsGoodRestrict}
+use Rattle.wt_step.specs.Meaning.{kept_pieces, IsRestrictDesubstitution}
 use Rattle.wt_step.proofs.Shaped.{holds}
 use Rattle.wt_step.proofs.Sorted.{sorted}
 use Rattle.wt_step.proofs.Goodness.{none_both, fits}
@@ -60,7 +60,7 @@ module _ (s : RawRestrict) where
   each_axis P o t One = o
   each_axis P o t Two = t
 
-  pub good_restrict : restrict_fault s ≡ None → GoodRestrict s
+  pub good_restrict : restrict_fault s ≡ None → IsGoodRestrict s
   unfolding restrict_fault
   good_restrict e =
       let n = neither (sorting_fault s) (use_fault s) e in
@@ -72,7 +72,7 @@ module _ (s : RawRestrict) where
         joins = λ axis i k li lk. joins_good axis (each_axis (λ x. kept_join_fault s x ≡ None) j.0 j.1 axis) i k li lk;
       }
 
-module _ (s : RawRestrict) (g : GoodRestrict s) where
+module _ (s : RawRestrict) (g : IsGoodRestrict s) where
   no_sorting : sorting_fault s ≡ None
   unfolding sorting_fault
   no_sorting =
@@ -150,7 +150,7 @@ numbers_split n a xs e = split (λ x. nat_lt x a) (nat_eq a) (is_below n) comes_
 same_number : (a : ℕ) → nat_eq a a ≡ true
 same_number a = grind (arith, nat_tests)
 
-module _ (s : RawRestrict) (g : GoodRestrict s) where
+module _ (s : RawRestrict) (g : IsGoodRestrict s) where
   -- each tile in the core of a valid rectangle is kept
   pub core_kept : (c : Grid) → IsPattern s.fine.tiles c → (x y : ℕ) → x < (core s.radius c).width → y < (core s.radius c).height → is_kept s (cell (core s.radius c) x y) ≡ true
   core_kept c p x y lx ly = go (is_kept s (cell (core s.radius c) x y)) refl
@@ -190,7 +190,7 @@ module _ (s : RawRestrict) (g : GoodRestrict s) where
       kept_joined Two i j x.0 y.0 x.1 y.1 m'
 
   -- each valid rectangle whose core has a cell has a coarse one, and that is valid
-  pub some_kept : (c : Grid) → IsPattern s.fine.tiles c → 1 ≤ (core s.radius c).width → 1 ≤ (core s.radius c).height → (q : Grid) × IsKept s c q × IsPattern s.coarse.tiles q
+  pub some_kept : (c : Grid) → IsPattern s.fine.tiles c → 1 ≤ (core s.radius c).width → 1 ≤ (core s.radius c).height → (q : Grid) × IsRestrictDesubstitution s c q × IsPattern s.coarse.tiles q
   some_kept c p lw lh =
       let d = core s.radius c in
       let ls = lines One d in
@@ -233,7 +233,7 @@ module _ (s : RawRestrict) (g : GoodRestrict s) where
   }
 
   -- and no other
-  pub one_kept : (c q r : Grid) → 1 ≤ (core s.radius c).height → IsGrid q → IsGrid r → IsKept s c q → IsKept s c r → q ≡ r
+  pub one_kept : (c q r : Grid) → 1 ≤ (core s.radius c).height → IsGrid q → IsGrid r → IsRestrictDesubstitution s c q → IsRestrictDesubstitution s c r → q ≡ r
   one_kept c q r lh iq ir i j =
       let d = core s.radius c in
       same_lines One q r iq ir (one_parse plain plain_good (lines One d) (lines One q) (lines One r) (filled_long d.height (lines One d) lh (long_lines One d)) i j)

@@ -20,7 +20,7 @@ use Rattle.wt_step.specs.declared.raw.RawStep.{RawStep}
 use Rattle.wt_step.specs.Words.{same_image, allowed, allows, is_marker, is_block, joined, demands}
 use Rattle.wt_grid.specs.Pairs.{is_this_pair, pairs_follow, pair_fits}
 use Rattle.wt_step.specs.Faults.{is_good_image, is_demanded}
-use Rattle.wt_step.specs.Good.{GoodStep}
+use Rattle.wt_step.specs.Good.{IsGoodStep}
 use Rattle.wt_morphism.specs.Images.{piece}
 use Rattle.wt_step.specs.Meaning.{pieces}
 use Rattle.wt_step.proofs.Goodness.{is_pair_same}
@@ -103,7 +103,7 @@ is_double : (a b : ℕ) (y : Image) → same_image (Double a b) y ≡ true → y
 is_double a b (Single c) e = absurd (cc e)
 is_double a b (Double c d) e = let g = and_parts (nat_eq a c) (nat_eq b d) e in let k : a ≡ c = grind (arith, nat_tests, g.0) in let l : b ≡ d = grind (arith, nat_tests, g.1) in cc
 
-module _ (s : RawStep) (g : GoodStep s) where
+module _ (s : RawStep) (g : IsGoodStep s) where
   pub apart : (a b : ℕ) → allows s s.axis a b ≡ true → is_marker s a ≡ true → is_marker s b ≡ true → ⊥
   apart a b h m n =
       let k : not (is_marker s a && is_marker s b) ≡ true = rw (same_itself s.axis) at (g.marked s.axis a b h) in

@@ -11,12 +11,12 @@ use Rattle.wt_step.specs.declared.coarse.DesubFault.{DesubFault}
 use Rattle.wt_step.specs.declared.coarse.DesubFault.TheVariants.{NotValid, TooSmall}
 use Rattle.wt_step.specs.Words.{is_marker, ends_block}
 use Rattle.wt_step.specs.Links.{fine_of}
-use Rattle.wt_step.specs.Meaning.{IsCoarse, IsKept}
+use Rattle.wt_step.specs.Meaning.{IsMarkerDesubstitution, IsRestrictDesubstitution}
 
 -- the coarse pattern q has the cut core of p as its image
-abbrev pub IsCoarseOf : RawLink → Grid → Grid → Type 0
-IsCoarseOf (Marker s) p q = IsCoarse s p q
-IsCoarseOf (Restrict s) p q = IsKept s p q
+abbrev pub IsDesubstitution : RawLink → Grid → Grid → Type 0
+IsDesubstitution (Marker s) p q = IsMarkerDesubstitution s p q
+IsDesubstitution (Restrict s) p q = IsRestrictDesubstitution s p q
 
 -- the core is as large as the law of desubstitution asks
 abbrev pub has_margin : RawLink → Grid → Bool

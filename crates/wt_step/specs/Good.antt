@@ -12,7 +12,7 @@ use Rattle.wt_step.specs.Restrict.{IsSorted, kept_match}
 use Rattle.wt_step.specs.Words.{same_image, allows, is_barred, is_block, image_at, images_match}
 use Rattle.wt_step.specs.Faults.{IsShaped, is_named_well, trees_fault, is_marked_well, is_good_image, is_demanded}
 
-pub record GoodStep (s : RawStep) : Type 0 where
+pub record IsGoodStep (s : RawStep) : Type 0 where
   -- the sets are tile sets, the lists are in order and in range
   pub shaped : IsShaped s
   -- allowed pairs match, and the refutations name the other matching pairs once and no more
@@ -32,7 +32,7 @@ pub record GoodStep (s : RawStep) : Type 0 where
   pub joins : (axis : Axis) (i j : ℕ) → i < length s.coarse.tiles → j < length s.coarse.tiles
       → matches s.coarse.tiles axis i j ≡ images_match s axis (image_at s i) (image_at s j)
 
-pub record GoodRestrict (s : RawRestrict) : Type 0 where
+pub record IsGoodRestrict (s : RawRestrict) : Type 0 where
   -- the sets are tile sets, and each fine tile is either kept or lost, in lists in order
   pub sorted : IsSorted s
   -- the tree of each lost tile refutes its window

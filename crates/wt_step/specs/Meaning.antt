@@ -28,8 +28,8 @@ abbrev pub cut_core : RawStep → Grid → List (List ℕ)
 cut_core s g = cut s.side (is_marker s) (lines s.axis (core s.radius g))
 
 -- the coarse rectangle q has the cut core of g as its image
-abbrev pub IsCoarse : RawStep → Grid → Grid → Type 0
-IsCoarse s g q = IsImage (pieces s) (lines s.axis q) (cut_core s g)
+abbrev pub IsMarkerDesubstitution : RawStep → Grid → Grid → Type 0
+IsMarkerDesubstitution s g q = IsImage (pieces s) (lines s.axis q) (cut_core s g)
 
 -- Restrict steps.
 
@@ -38,8 +38,8 @@ abbrev pub kept_pieces : RawRestrict → List Image
 kept_pieces s = map Single s.kept
 
 -- the coarse rectangle q has the whole core of g as its image
-abbrev pub IsKept : RawRestrict → Grid → Grid → Type 0
-IsKept s g q = IsImage (kept_pieces s) (lines One q) (lines One (core s.radius g))
+abbrev pub IsRestrictDesubstitution : RawRestrict → Grid → Grid → Type 0
+IsRestrictDesubstitution s g q = IsImage (kept_pieces s) (lines One q) (lines One (core s.radius g))
 
 -- what each coarse tile of a step of either kind stands for
 abbrev pub pieces_of : RawLink → List Image

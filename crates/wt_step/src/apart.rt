@@ -5,8 +5,8 @@ ghost use Rattle.wt_grid.specs.Parts.{core};
 ghost use Rattle.wt_pattern.specs.Patterns.{IsPattern};
 ghost use Rattle.wt_pattern.specs.Shape.{IsShape};
 ghost use Rattle.wt_step.specs.Words as words;
-ghost use Rattle.wt_step.specs.Good.{GoodStep};
-ghost use Rattle.wt_step.specs.Meaning.{IsCoarse};
+ghost use Rattle.wt_step.specs.Good.{IsGoodStep};
+ghost use Rattle.wt_step.specs.Meaning.{IsMarkerDesubstitution};
 ghost use Rattle.wt_step.specs.Blocks.{pairs_at, blocks_in, coarse_grid};
 ghost use Rattle.wt_step.specs.Blocks as block_words;
 ghost use Rattle.wt_step.specs.Coarse.{is_marked};
@@ -109,7 +109,7 @@ fn coarse_pattern(
     blocks: &[Block],
     across: usize,
 ) -> Result<Pattern, AllocError>
-    requires good { GoodStep raw.now }
+    requires good { IsGoodStep raw.now }
     requires some { 1 ≤ across }
     requires few { across ≤ 4096 }
     requires some_blocks { 1 ≤ length blocks.now }
@@ -124,11 +124,11 @@ fn coarse_pattern(
 
 /// The coarse pattern whose image is the cut core, with its two cuts.
 pub fn take_apart(alloc: Global, raw: &RawStep, p: &Pattern) -> Result<Coarse, AllocError>
-    requires good { GoodStep raw.now }
+    requires good { IsGoodStep raw.now }
     requires pattern { IsPattern raw.now.fine.tiles p.now }
     requires long { 3 ≤ along raw.now.axis (core raw.now.radius p.now) }
     requires wide { 1 ≤ across raw.now.axis (core raw.now.radius p.now) }
-    ensures coarse { IfOk result (λ c. IsCoarse raw.now p.now c.pattern) }
+    ensures coarse { IfOk result (λ c. IsMarkerDesubstitution raw.now p.now c.pattern) }
     ensures valid { IfOk result (λ c. IsPattern raw.now.coarse.tiles c.pattern) }
     ensures low_cut { IfOk result (λ c. c.low_cut ≡ words.ends_block raw.now.side (is_marked raw.now p.now 0)) }
     ensures high_cut { IfOk result (λ c. c.high_cut ≡ not (words.ends_block raw.now.side (is_marked raw.now p.now (along raw.now.axis (core raw.now.radius p.now) - 1)))) }

@@ -7,7 +7,7 @@ ghost use Rattle.wt_pattern.specs.Periods.{IsPeriod};
 ghost use Rattle.wt_pattern.specs.Shape.{IsShape};
 ghost use Rattle.wt_step.specs.Links.{fine_of};
 ghost use Rattle.wt_step.specs.Views.{link_of};
-ghost use Rattle.wt_step.specs.Coarse.{IsCoarseOf};
+ghost use Rattle.wt_step.specs.Coarse.{IsDesubstitution};
 ghost use Rattle.wt_step.specs.Carried.{magnitude, IsCountedBy};
 ghost use Rattle.wt_step.specs.Carried as spec;
 
@@ -110,8 +110,8 @@ pub fn carry_period(link: LinkRef<'_>, p: &Pattern, dx: i64, dy: i64) -> (i64, i
     requires pattern { IsPattern (fine_of (link_of link)).tiles p.now }
     requires period { IsPeriod p.now dx dy }
     requires room { spec.has_room (link_of link) p.now dx dy ≡ true }
-    ensures value { (q : Grid) → IsGrid q → IsCoarseOf (link_of link.entry) p.now q → IsCountedBy (link_of link.entry) q dx dy result }
-    ensures period { (q : Grid) → IsGrid q → IsCoarseOf (link_of link.entry) p.now q → IsPeriod q result.0 result.1 }
+    ensures value { (q : Grid) → IsGrid q → IsDesubstitution (link_of link.entry) p.now q → IsCountedBy (link_of link.entry) q dx dy result }
+    ensures period { (q : Grid) → IsGrid q → IsDesubstitution (link_of link.entry) p.now q → IsPeriod q result.0 result.1 }
     ensures shorter { (magnitude result.0 ≤ magnitude dx) × (magnitude result.1 ≤ magnitude dy) }
     ensures zero { ((result.0 ≡ pos 0) ↔ (dx ≡ pos 0)) × ((result.1 ≡ pos 0) ↔ (dy ≡ pos 0)) }
 {

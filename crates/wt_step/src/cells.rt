@@ -1,7 +1,7 @@
 // The cells of a coarse pattern.
 ghost use Rattle.std.specs.Prelude.{◌≡◌, ◌≤◌, ◌<◌, slice_index, IfOk};
 ghost use Rattle.wt_grid.specs.Grid.{listed};
-ghost use Rattle.wt_step.specs.Good.{GoodStep};
+ghost use Rattle.wt_step.specs.Good.{IsGoodStep};
 ghost use Rattle.wt_step.specs.Blocks.{coarse_cell};
 ghost use Rattle.wt_step.specs.Blocks as spec;
 
@@ -34,7 +34,7 @@ fn block_at(blocks: &[Block], i: usize) -> Block
 
 /// The coarse tile of cell j of a block.
 fn block_tile(raw: &RawStep, p: &Pattern, index: &Index, block: Block, j: usize) -> u16
-    requires good { GoodStep raw.now }
+    requires good { IsGoodStep raw.now }
     requires cell { j < 16777217 }
     ensures { result ≡ spec.block_tile raw.now p.now index.now.singles.items index.now.pairs.items block j }
 {
@@ -51,7 +51,7 @@ fn block_tile(raw: &RawStep, p: &Pattern, index: &Index, block: Block, j: usize)
 
 /// The coarse tile at column x of row y.
 fn coarse_at(raw: &RawStep, p: &Pattern, index: &Index, blocks: &[Block], x: usize, y: usize) -> u16
-    requires good { GoodStep raw.now }
+    requires good { IsGoodStep raw.now }
     requires column { x < 16777217 }
     requires row { y < 16777217 }
     ensures { result ≡ spec.coarse_at raw.now p.now index.now.singles.items index.now.pairs.items blocks.now raw.now.axis x y }
@@ -73,7 +73,7 @@ pub fn coarse_cells(
     width: usize,
     count: usize,
 ) -> Result<Vec<u16>, AllocError>
-    requires good { GoodStep raw.now }
+    requires good { IsGoodStep raw.now }
     requires some { 0 < width }
     requires few { count ≤ 16777216 }
     ensures { IfOk result (λ cells. cells.items ≡ listed count (coarse_cell raw.now p.now index.now.singles.items index.now.pairs.items blocks.now width)) }

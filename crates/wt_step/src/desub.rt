@@ -7,7 +7,7 @@ ghost use Rattle.wt_pattern.specs.Shape.{IsShape};
 ghost use Rattle.wt_pattern.specs.Validity.{first_stranger, first_fault};
 ghost use Rattle.wt_step.specs.Links.{fine_of, coarse_of};
 ghost use Rattle.wt_step.specs.Views.{link_of};
-ghost use Rattle.wt_step.specs.Coarse.{IsCoarseOf, cuts_low, cuts_high, desub_fault};
+ghost use Rattle.wt_step.specs.Coarse.{IsDesubstitution, cuts_low, cuts_high, desub_fault};
 ghost use Rattle.wt_step.specs.Coarse as spec;
 
 use crate::apart::{core_across, core_lines, take_apart};
@@ -47,7 +47,7 @@ fn has_margin(link: LinkRef<'_>, p: &Pattern) -> bool
 fn desubstitute_valid(alloc: Global, link: LinkRef<'_>, p: &Pattern) -> Result<Coarse, AllocError>
     requires pattern { IsPattern (fine_of (link_of link)).tiles p.now }
     requires margin { spec.has_margin (link_of link) p.now ≡ true }
-    ensures coarse { IfOk result (λ c. IsCoarseOf (link_of link.entry) p.now c.pattern) }
+    ensures coarse { IfOk result (λ c. IsDesubstitution (link_of link.entry) p.now c.pattern) }
     ensures valid { IfOk result (λ c. IsPattern (coarse_of (link_of link.entry)).tiles c.pattern) }
     ensures low_cut { IfOk result (λ c. c.low_cut ≡ cuts_low (link_of link.entry) p.now) }
     ensures high_cut { IfOk result (λ c. c.high_cut ≡ cuts_high (link_of link.entry) p.now) }
@@ -74,7 +74,7 @@ pub fn desubstitute(alloc: Global, link: LinkRef<'_>, p: &Pattern) -> Result<Coa
     requires { first_stranger (length (fine_of (link_of link)).tiles) p.now ≡ None }
     ensures refused { (fault : DesubFault) → desub_fault (link_of link.entry) p.now ≡ Some fault → IsErrOf result fault }
     ensures refusal { IfErr result (λ fault. (fault ≡ DesubFault.OutOfMemory) ⊎ (desub_fault (link_of link.entry) p.now ≡ Some fault)) }
-    ensures coarse { IfOk result (λ c. IsCoarseOf (link_of link.entry) p.now c.pattern) }
+    ensures coarse { IfOk result (λ c. IsDesubstitution (link_of link.entry) p.now c.pattern) }
     ensures valid { IfOk result (λ c. IsPattern (coarse_of (link_of link.entry)).tiles c.pattern) }
     ensures low_cut { IfOk result (λ c. c.low_cut ≡ cuts_low (link_of link.entry) p.now) }
     ensures high_cut { IfOk result (λ c. c.high_cut ≡ cuts_high (link_of link.entry) p.now) }

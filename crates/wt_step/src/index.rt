@@ -1,7 +1,7 @@
 // The numbers of a step's images, by their tiles.
 ghost use Rattle.std.specs.Prelude.{◌≡◌, ◌≤◌, ◌<◌, ◌*◌, true, length, IfOk};
 ghost use Rattle.wt_step.specs.Words.{image_fits};
-ghost use Rattle.wt_step.specs.Good.{GoodStep};
+ghost use Rattle.wt_step.specs.Good.{IsGoodStep};
 ghost use Rattle.wt_step.specs.Blocks.{IsIndexed, note_single, note_pair};
 
 use crate::RawStep;
@@ -32,7 +32,7 @@ fn note_image(index: &mut Index, tiles: usize, image: Image, i: u16)
 
 #[tactic(auto, using(crate::proofs::Indexed::good_sizes))]
 pub fn count_tiles(raw: &RawStep) -> usize
-    requires { GoodStep raw.now }
+    requires { IsGoodStep raw.now }
     ensures value { result ≡ length raw.now.fine.tiles }
     ensures few { result ≤ 256 }
 {
@@ -41,7 +41,7 @@ pub fn count_tiles(raw: &RawStep) -> usize
 
 #[tactic(auto, using(crate::proofs::Indexed::good_sizes))]
 fn count_images(raw: &RawStep) -> u16
-    requires { GoodStep raw.now }
+    requires { IsGoodStep raw.now }
     ensures value { result ≡ length raw.now.images }
     ensures few { result ≤ 256 }
 {
@@ -50,7 +50,7 @@ fn count_images(raw: &RawStep) -> u16
 
 /// The index of all images.
 pub fn index_images(alloc: Global, raw: &RawStep) -> Result<Index, AllocError>
-    requires { GoodStep raw.now }
+    requires { IsGoodStep raw.now }
     ensures { IfOk result (λ index. IsIndexed raw.now.images (length raw.now.fine.tiles) (length raw.now.images) index.singles.items index.pairs.items) }
 {
     let tiles = count_tiles(raw);

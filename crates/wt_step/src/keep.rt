@@ -3,8 +3,8 @@ ghost use Rattle.std.specs.Prelude.{◌≡◌, ◌≤◌, ◌<◌, length, slice
 ghost use Rattle.wt_grid.specs.Grid.{listed, grid_of};
 ghost use Rattle.wt_grid.specs.Parts.{core};
 ghost use Rattle.wt_pattern.specs.Patterns.{IsPattern};
-ghost use Rattle.wt_step.specs.Good.{GoodRestrict};
-ghost use Rattle.wt_step.specs.Meaning.{IsKept};
+ghost use Rattle.wt_step.specs.Good.{IsGoodRestrict};
+ghost use Rattle.wt_step.specs.Meaning.{IsRestrictDesubstitution};
 ghost use Rattle.wt_step.specs.Blocks.{IsPlaced, kept_cell};
 ghost use Rattle.wt_step.specs.Blocks as spec;
 
@@ -19,7 +19,7 @@ use wt_tile::Axis;
 
 #[tactic(auto, using(crate::proofs::Placed::kept_sizes))]
 fn count_tiles(raw: &RawRestrict) -> usize
-    requires { GoodRestrict raw.now }
+    requires { IsGoodRestrict raw.now }
     ensures value { result ≡ length raw.now.fine.tiles }
     ensures few { result ≤ 256 }
 {
@@ -28,7 +28,7 @@ fn count_tiles(raw: &RawRestrict) -> usize
 
 #[tactic(auto, using(crate::proofs::Placed::kept_sizes))]
 fn count_kept(raw: &RawRestrict) -> u16
-    requires { GoodRestrict raw.now }
+    requires { IsGoodRestrict raw.now }
     ensures value { result ≡ length raw.now.kept }
     ensures few { result ≤ 256 }
 {
@@ -44,7 +44,7 @@ fn note_place(places: &mut Vec<u16>, tile: u16, i: u16)
 
 /// The place of each kept tile, by tile.
 fn place_kept(alloc: Global, raw: &RawRestrict) -> Result<Vec<u16>, AllocError>
-    requires { GoodRestrict raw.now }
+    requires { IsGoodRestrict raw.now }
     ensures { IfOk result (λ places. IsPlaced raw.now.kept (length raw.now.fine.tiles) (length raw.now.kept) places.items) }
 {
     let mut places = vec![in alloc; 0u16; count_tiles(raw)]?;
@@ -109,11 +109,11 @@ fn kept_pattern(
 
 /// The coarse pattern whose image is the core.
 pub fn keep(alloc: Global, raw: &RawRestrict, p: &Pattern) -> Result<Pattern, AllocError>
-    requires good { GoodRestrict raw.now }
+    requires good { IsGoodRestrict raw.now }
     requires pattern { IsPattern raw.now.fine.tiles p.now }
     requires wide { 1 ≤ (core raw.now.radius p.now).width }
     requires high { 1 ≤ (core raw.now.radius p.now).height }
-    ensures kept { IfOk result (λ q. IsKept raw.now p.now q) }
+    ensures kept { IfOk result (λ q. IsRestrictDesubstitution raw.now p.now q) }
     ensures valid { IfOk result (λ q. IsPattern raw.now.coarse.tiles q) }
 {
     let places = place_kept(alloc, raw)?;

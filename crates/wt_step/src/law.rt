@@ -9,23 +9,23 @@ ghost use Rattle.wt_step.specs.declared.raw.RawRestrict.{RawRestrict};
 ghost use Rattle.wt_step.specs.Faults as faults;
 ghost use Rattle.wt_step.specs.Restrict.{is_kept};
 ghost use Rattle.wt_step.specs.Restrict as restrict;
-ghost use Rattle.wt_step.specs.Good.{GoodStep, GoodRestrict};
-ghost use Rattle.wt_step.specs.Meaning.{allowing, cut_core, IsCoarse, IsKept};
-ghost use Rattle.wt_step.specs.Cores.{core_lines, core_length, core_width, SharesBlocks};
+ghost use Rattle.wt_step.specs.Good.{IsGoodStep, IsGoodRestrict};
+ghost use Rattle.wt_step.specs.Meaning.{allowing, cut_core, IsMarkerDesubstitution, IsRestrictDesubstitution};
+ghost use Rattle.wt_step.specs.Cores.{core_lines, core_length, core_width, HasSharedBlocks};
 ghost use Rattle.wt_step.specs.declared.raw.RawLink.TheVariants.{Marker};
 ghost use Rattle.wt_step.specs.Coarse.{has_margin, cuts_low, cuts_high, core_line, cut_line};
 ghost use Rattle.wt_step.specs.Carried.{IsCarried};
 
 /// A marker step has no fault exactly where it is good.
 pub fn good_steps()
-    ensures good { (s : RawStep) → faults.step_fault s ≡ None → GoodStep s }
-    ensures back { (s : RawStep) → GoodStep s → faults.step_fault s ≡ None }
+    ensures good { (s : RawStep) → faults.step_fault s ≡ None → IsGoodStep s }
+    ensures back { (s : RawStep) → IsGoodStep s → faults.step_fault s ≡ None }
 {}
 
 /// A restrict step has no fault exactly where it is good.
 pub fn good_restricts()
-    ensures good { (s : RawRestrict) → restrict.restrict_fault s ≡ None → GoodRestrict s }
-    ensures back { (s : RawRestrict) → GoodRestrict s → restrict.restrict_fault s ≡ None }
+    ensures good { (s : RawRestrict) → restrict.restrict_fault s ≡ None → IsGoodRestrict s }
+    ensures back { (s : RawRestrict) → IsGoodRestrict s → restrict.restrict_fault s ≡ None }
 {}
 
 /// In the core of a valid pattern each two neighbours are an allowed pair of the marker step, since
@@ -43,10 +43,10 @@ pub fn cores_are_plain()
 pub fn desubstitutes()
     ensures some { (s : RawStep) → faults.step_fault s ≡ None → (p : Grid) → IsPattern s.fine.tiles p
         → 3 ≤ core_length s p → 1 ≤ core_width s p
-        → (q : Grid) × IsCoarse s p q × IsPattern s.coarse.tiles q }
+        → (q : Grid) × IsMarkerDesubstitution s p q × IsPattern s.coarse.tiles q }
     ensures one { (s : RawStep) → faults.step_fault s ≡ None → (p q r : Grid) → 1 ≤ core_width s p
-        → IsGrid q → IsGrid r → IsCoarse s p q → IsCoarse s p r → q ≡ r }
-    ensures others { (s : RawStep) → faults.step_fault s ≡ None → (p q r : Grid) → 1 ≤ core_width s p → IsGrid r → IsCoarse s p q → SharesBlocks s p q r }
+        → IsGrid q → IsGrid r → IsMarkerDesubstitution s p q → IsMarkerDesubstitution s p r → q ≡ r }
+    ensures others { (s : RawStep) → faults.step_fault s ≡ None → (p q r : Grid) → 1 ≤ core_width s p → IsGrid r → IsMarkerDesubstitution s p q → HasSharedBlocks s p q r }
 {}
 
 /// The lines of a core are the first line, where it is cut, then the cut core, and then the last line, where
@@ -61,7 +61,7 @@ pub fn cuts_are_the_border_lines()
 /// the core has three lines more along the axis than the period, and one more across. The period's part
 /// along the axis is counted in blocks instead of lines.
 pub fn periods_are_carried()
-    ensures { (s : RawStep) → faults.step_fault s ≡ None → (p q : Grid) → IsPattern s.fine.tiles p → IsGrid q → IsCoarse s p q
+    ensures { (s : RawStep) → faults.step_fault s ≡ None → (p q : Grid) → IsPattern s.fine.tiles p → IsGrid q → IsMarkerDesubstitution s p q
         → (opposed : Bool) (d e : ℕ) → d + 3 ≤ core_length s p → e < core_width s p
         → HasVector s.axis opposed d e p → (n : ℕ) × IsCarried s opposed d e n q }
 {}
@@ -71,7 +71,7 @@ pub fn periods_are_carried()
 pub fn restricts()
     ensures some { (s : RawRestrict) → restrict.restrict_fault s ≡ None → (p : Grid) → IsPattern s.fine.tiles p
         → 1 ≤ (core s.radius p).width → 1 ≤ (core s.radius p).height
-        → (q : Grid) × IsKept s p q × IsPattern s.coarse.tiles q }
+        → (q : Grid) × IsRestrictDesubstitution s p q × IsPattern s.coarse.tiles q }
     ensures one { (s : RawRestrict) → restrict.restrict_fault s ≡ None → (p q r : Grid) → 1 ≤ (core s.radius p).height
-        → IsGrid q → IsGrid r → IsKept s p q → IsKept s p r → q ≡ r }
+        → IsGrid q → IsGrid r → IsRestrictDesubstitution s p q → IsRestrictDesubstitution s p r → q ≡ r }
 {}

@@ -4,7 +4,7 @@ use mir.Syntax.{w64}
 use Rattle.wt_grid.specs.Grid.{Grid, IsGrid}
 use Rattle.wt_pattern.specs.Periods.{IsPeriod}
 use Rattle.wt_step.specs.Views.{link_of}
-use Rattle.wt_step.specs.Coarse.{IsCoarseOf}
+use Rattle.wt_step.specs.Coarse.{IsDesubstitution}
 use Rattle.wt_step.specs.Carried.{IsCountedBy, magnitude, carried_vector}
 use Rattle.wt_step.proofs.CarriedVectors.{is_good, value, period, shorter, zeros}
 use Rattle.wt_step.proofs.carry.carry_period.Goals as goal
@@ -13,14 +13,14 @@ pub returns-clause-value : goal.returns-clause-value
 returns-clause-value c =
     let l = link_of c.args.link in
     let same : c.carried_vector.result ≡ carried_vector l c.args.p.now c.args.dx c.args.dy = rw (to_z-of_z w64 c.args.dx c.ranges.dx, to_z-of_z w64 c.args.dy c.ranges.dy) at c.carried_vector.ensures in
-    subst (λ (v : ℤ × ℤ). (q : Grid) → IsGrid q → IsCoarseOf l c.args.p.now q → IsCountedBy l q c.args.dx c.args.dy v) (sym same)
+    subst (λ (v : ℤ × ℤ). (q : Grid) → IsGrid q → IsDesubstitution l c.args.p.now q → IsCountedBy l q c.args.dx c.args.dy v) (sym same)
     (value c.args.p.now c.args.dx c.args.dy c.requires.period l (is_good c.args.link) c.requires.pattern c.requires.room)
 
 pub returns-clause-period : goal.returns-clause-period
 returns-clause-period c =
     let l = link_of c.args.link in
     let same : c.carried_vector.result ≡ carried_vector l c.args.p.now c.args.dx c.args.dy = rw (to_z-of_z w64 c.args.dx c.ranges.dx, to_z-of_z w64 c.args.dy c.ranges.dy) at c.carried_vector.ensures in
-    subst (λ (v : ℤ × ℤ). (q : Grid) → IsGrid q → IsCoarseOf l c.args.p.now q → IsPeriod q v.0 v.1) (sym same)
+    subst (λ (v : ℤ × ℤ). (q : Grid) → IsGrid q → IsDesubstitution l c.args.p.now q → IsPeriod q v.0 v.1) (sym same)
     (period c.args.p.now c.args.dx c.args.dy c.requires.period l (is_good c.args.link) c.requires.pattern c.requires.room)
 
 pub returns-clause-shorter : goal.returns-clause-shorter
