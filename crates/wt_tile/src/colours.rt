@@ -46,6 +46,13 @@ impl Colours {
         }
     }
 
+    /// How many edges are held.
+    pub fn len(&self) -> u16
+        ensures { result ≡ length self.now }
+    {
+        self.edges.len() as u16
+    }
+
     /// The number of an edge: that of its first coming, or the next one for a new edge, which is kept. After a refusal nothing has changed.
     pub fn number(&mut self, edge: Edge) -> Result<u16, ColourFault>
         ensures numbered { IfOk result (λ n. slice_get self.new n ≡ Some edge) }

@@ -12,7 +12,7 @@ mod set;
 mod tests;
 mod tile;
 
-pub use checks::{colour_fault, place_of};
+pub use checks::{colour_fault, place_of, repeated};
 pub use colours::{ColourFault, Colours};
 pub use fusion::{Edge, Fused, fuse};
 pub use laws::{numbers_tell_edges, tile_sets};

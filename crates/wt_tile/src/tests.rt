@@ -148,6 +148,7 @@ fn numbers_pairs_of_colours(rt: HostRuntime) -> Result<(), Fail> {
     for (edge, want) in edges {
         assert_eq!(rt; colours.number(edge), Ok(want));
     }
+    assert_eq!(rt; colours.len(), 4);
     Ok(())
 }
 
