@@ -1,0 +1,47 @@
+-- Masks of tiles: a bit for each, 256 in all.
+use Rattle.std.specs.Prelude.{◌≡◌, ℕ, ◌<◌, Bool, true, false, ◌&&◌, nat_eq, nat_lt, List, [], length, slice_index_or}
+use Rattle.wt_grid.specs.declared.axis.Axis.TheVariants.{One, Two}
+use Rattle.wt_tile.specs.declared.tile.Tile.{Tile}
+use Rattle.wt_tile.specs.Matching.{matches, ahead, behind, tile_at}
+use Rattle.wt_lane.specs.Masks.{mask_bit}
+use Rattle.wt_mask.specs.declared.sides.TheConstants.{COLOURS}
+use Rattle.wt_mask.specs.declared.sides.Way.{Way}
+use Rattle.wt_mask.specs.declared.sides.Way.TheVariants.{Right, Left, Up, Down}
+
+-- the bit that says whether a test holds
+abbrev pub bit : Bool → ℕ
+bit true = 1
+bit false = 0
+
+-- the mask of a cell, or of a colour
+abbrev pub mask_at : List (List ℕ) → ℕ → List ℕ
+mask_at masks k = slice_index_or masks k []
+
+-- tile u may stand beside tile t, on this side of it
+abbrev pub may_stand : List Tile → Way → ℕ → ℕ → Bool
+may_stand ts Right t u = matches ts One t u
+may_stand ts Left t u = matches ts One u t
+may_stand ts Up t u = matches ts Two t u
+may_stand ts Down t u = matches ts Two u t
+
+-- the colour of a tile's edge on this side
+abbrev pub edge : Way → Tile → ℕ
+edge Right t = ahead One t
+edge Left t = behind One t
+edge Up t = ahead Two t
+edge Down t = behind Two t
+
+-- the colour of the edge that a tile on this side turns to the tile in the middle
+abbrev pub turned : Way → Tile → ℕ
+turned Right t = behind One t
+turned Left t = ahead One t
+turned Up t = behind Two t
+turned Down t = ahead Two t
+
+-- the mask has those of the first n tiles that meet this colour, when they stand on this side
+abbrev pub IsMet : List Tile → Way → ℕ → ℕ → List ℕ → Type 0
+IsMet ts way n colour mask = (u : ℕ) → mask_bit mask u ≡ bit (nat_lt u n && nat_eq colour (turned way (tile_at ts u)))
+
+-- for each of the colours that have a mask of their own, the tiles that meet it on this side
+abbrev pub IsSide : List Tile → Way → List (List ℕ) → Type 0
+IsSide ts way rows = (colour : ℕ) → colour < COLOURS → IsMet ts way (length ts) colour (mask_at rows colour)
