@@ -1,19 +1,21 @@
-// Standard trees, built.
+//! Standard trees, built.
 ghost use Rattle.std.specs.Prelude.{◌≡◌, ◌+◌, ◌^◌, ◌<◌, ◌≤◌, length, IfOk, IsErrOf, true};
 ghost use Rattle.wt_refute.specs.Refutation.{node_count, branch, no_more};
 ghost use Rattle.wt_refute.specs.View.{refutation};
 ghost use Rattle.wt_refute.specs.Placed.{placed};
+ghost use Rattle.wt_refute.specs.Fitted.{AreCounted};
 ghost use Rattle.wt_refute.specs.Entries.{ascends};
 ghost use Rattle.wt_refute.specs.Standard.{tree_within, standard_tree};
 
 use crate::check::{free_cells, place_pair};
 use crate::choice::{first_citation, tightest};
-use crate::window::fits_cell;
+use crate::fitting::{Counts, count_all, fit_mask, put};
 use crate::{Child, Refuted, Tree};
 use sqlite_items::Items;
 use std::alloc::Global;
+use wt_mask::{Sides, next_bit};
 use wt_pattern::window_shape;
-use wt_tile::{Axis, SetRef, Tile};
+use wt_tile::{Axis, SetRef};
 
 /// Why no tree was built.
 #[derive(Clone, Copy, Debug, PartialEq, Eq)]
@@ -36,24 +38,25 @@ fn leaf(alloc: Global) -> Tree
 /// The tree within a depth, and what is left of the budget.
 fn grow(
     alloc: Global,
-    tiles: &[Tile],
+    sides: &Sides<'_>,
     radius: u8,
     known: &[Refuted],
     shape: (usize, usize),
     cells: &mut [Option<u16>],
+    counts: &Counts,
     depth: usize,
     budget: u64,
 ) -> Result<(Tree, u64), BuildEnd>
     requires wide { 0 < shape.0 }
     requires small { shape.0 < 2 ^ 32 }
-    requires few { length tiles.now ≤ 65536 }
-    requires few_cells { length cells.old ≤ 65536 }
+    requires few_cells { length cells.old ≤ 90 }
     requires radius { radius ≤ 4 }
     requires in_order { ascends known.now ≡ true }
+    requires counted { AreCounted sides.now.tiles.now (placed shape cells.old) counts.now }
     ensures same { cells.new ≡ cells.old }
-    ensures ok { IfOk result (λ r. (refutation r.0 ≡ tree_within tiles.now radius known.now depth (placed shape cells.old))
-        × (r.1 + node_count (tree_within tiles.now radius known.now depth (placed shape cells.old)) ≡ budget)) }
-    ensures spent { IsErrOf result BuildEnd.Spent → budget < node_count (tree_within tiles.now radius known.now depth (placed shape cells.old)) }
+    ensures ok { IfOk result (λ r. (refutation r.0 ≡ tree_within sides.now.tiles.now radius known.now depth (placed shape cells.old))
+        × (r.1 + node_count (tree_within sides.now.tiles.now radius known.now depth (placed shape cells.old)) ≡ budget)) }
+    ensures spent { IsErrOf result BuildEnd.Spent → budget < node_count (tree_within sides.now.tiles.now radius known.now depth (placed shape cells.old)) }
 {
     if budget == 0 {
         return Err(BuildEnd::Spent);
@@ -66,17 +69,19 @@ fn grow(
     if let Some((cell, axis)) = first_citation(radius, known, shape, cells) {
         return Ok((Tree::Cite { cell, axis }, left));
     }
-    let Some(cell) = tightest(tiles, shape, cells) else {
+    let Some(cell) = tightest(shape, cells, counts) else {
         return Ok((leaf(alloc), left));
     };
     let at = usize::from(cell);
+    let fit = fit_mask(sides, shape, cells, at);
     let mut children = Items::new(alloc);
-    for tile in 0..tiles.len() {
-        if !fits_cell(tiles, shape, cells, at, tile as u16) {
-            continue;
-        }
-        cells[at] = Some(tile as u16);
-        let grown = grow(alloc, tiles, radius, known, shape, cells, below, left);
+    let mut from = 0usize;
+    'tiles: while let Some(tile) = next_bit(&fit, from) {
+        let mut next = *counts;
+        put(sides, shape, cells, &mut next, at, tile as u16);
+        let grown = grow(
+            alloc, sides, radius, known, shape, cells, &next, below, left,
+        );
         cells[at] = None;
         match grown {
             Err(end) => return Err(end),
@@ -91,6 +96,7 @@ fn grow(
                 }
             }
         }
+        from = tile + 1;
     }
     Ok((Tree::Branch { cell, children }, left))
 }
@@ -117,13 +123,36 @@ pub fn build_tree(
     ensures enough { IfOk result (λ t. node_count (standard_tree set.entry.list.now.tiles axis a b radius known.now) ≤ budget) }
     ensures spent { IsErrOf result BuildEnd.Spent → budget < node_count (standard_tree set.entry.list.now.tiles axis a b radius known.now) }
 {
-    let tiles = set.tiles();
+    let sides = Sides::new(set.tiles());
+    build_tree_in(alloc, &sides, axis, a, b, radius, known, budget)
+}
+
+/// The same with the masks of the set's tiles, which many trees can share.
+pub fn build_tree_in(
+    alloc: Global,
+    sides: &Sides<'_>,
+    axis: Axis,
+    a: u16,
+    b: u16,
+    radius: u8,
+    known: &[Refuted],
+    budget: u64,
+) -> Result<Tree, BuildEnd>
+    requires radius { radius ≤ 4 }
+    requires in_order { ascends known.now ≡ true }
+    ensures tree { IfOk result (λ t. refutation t ≡ standard_tree sides.now.tiles.now axis a b radius known.now) }
+    ensures enough { IfOk result (λ t. node_count (standard_tree sides.now.tiles.now axis a b radius known.now) ≤ budget) }
+    ensures spent { IsErrOf result BuildEnd.Spent → budget < node_count (standard_tree sides.now.tiles.now axis a b radius known.now) }
+{
     let shape = window_shape(axis, radius);
     let mut all = free_cells();
     let cells = &mut all[..shape.0 * shape.1];
     place_pair(axis, a, b, radius, shape, cells);
     let depth = cells.len();
-    match grow(alloc, tiles, radius, known, shape, cells, depth, budget) {
+    let counts = count_all(sides, shape, cells);
+    match grow(
+        alloc, sides, radius, known, shape, cells, &counts, depth, budget,
+    ) {
         Ok((tree, _)) => Ok(tree),
         Err(end) => Err(end),
     }

@@ -1,4 +1,4 @@
-// The checker of refutation trees.
+//! The checker of refutation trees.
 ghost use Rattle.std.specs.Prelude.{◌≡◌, ℕ, ◌+◌, ◌-◌, ◌*◌, ◌^◌, ◌<◌, ◌≤◌, [], ◌∷◌, length, MatchResult, None, Some, replicate, true};
 ghost use Rattle.std.specs.Option.{option_map};
 ghost use Rattle.wt_refute.specs.Refutation.{node_count, tiles_in, held};
@@ -10,15 +10,18 @@ ghost use Rattle.wt_refute.specs.Entries.{ascends};
 ghost use Rattle.wt_refute.specs.Refutes.{first_wrong, tree_fault, tile_tree_fault};
 ghost use Rattle.wt_refute.specs.Refutes as refutes;
 
+use crate::fitting::fit_mask;
 use crate::known::has_entry;
-use crate::window::{above, is_free, next_fitting, right_of, tile_in};
+use crate::window::{above, is_free, right_of, tile_in};
 use crate::{Child, Refuted, Tree};
+use wt_mask::{Sides, next_bit};
 use wt_pattern::window_shape;
 use wt_tile::{Axis, SetRef, Tile};
 
 /// The first wrong node of a tree in preorder, counted from 0 at the root, held at the last value of usize.
 #[derive(Clone, Copy, Debug, PartialEq, Eq)]
 pub struct TreeFault {
+    /// The number of the node in preorder, from 0.
     pub node: usize,
 }
 
@@ -79,7 +82,7 @@ pub fn is_cited(
 }
 
 fn is_branching(
-    tiles: &[Tile],
+    sides: &Sides<'_>,
     shape: (usize, usize),
     cells: &[Option<u16>],
     cell: usize,
@@ -88,15 +91,15 @@ fn is_branching(
     requires wide { 0 < shape.0 }
     requires small { shape.0 < 2 ^ 32 }
     requires low { cell < 2 ^ 32 }
-    requires few { length tiles.now ≤ 65536 }
-    ensures { result ≡ refutes.is_branching tiles.now (placed shape cells.now) cell (tiles_in (children_view children.now)) }
+    ensures { result ≡ refutes.is_branching sides.now.tiles.now (placed shape cells.now) cell (tiles_in (children_view children.now)) }
 {
     if !is_free(shape, cells, cell) {
         return false;
     }
+    let fit = fit_mask(sides, shape, cells, cell);
     let mut from = 0usize;
     for child in children {
-        let Some(tile) = next_fitting(tiles, shape, cells, cell, from) else {
+        let Some(tile) = next_bit(&fit, from) else {
             return false;
         };
         if tile != usize::from(child.tile) {
@@ -104,12 +107,15 @@ fn is_branching(
         }
         from = tile + 1;
     }
-    next_fitting(tiles, shape, cells, cell, from).is_none()
+    match next_bit(&fit, from) {
+        None => true,
+        Some(_) => false,
+    }
 }
 
 /// The number of nodes, or the first wrong one.
 fn walk(
-    tiles: &[Tile],
+    sides: &Sides<'_>,
     radius: u8,
     known: &[Refuted],
     shape: (usize, usize),
@@ -118,13 +124,12 @@ fn walk(
 ) -> Result<usize, TreeFault>
     requires wide { 0 < shape.0 }
     requires small { shape.0 < 2 ^ 32 }
-    requires few { length tiles.now ≤ 65536 }
     requires radius { radius ≤ 4 }
     requires in_order { ascends known.now ≡ true }
     ensures same { cells.new ≡ cells.old }
     ensures judged { MatchResult result
-        (λ count. (first_wrong tiles.now radius known.now (placed shape cells.old) (refutation tree.now) ≡ None) × (count ≡ held (node_count (refutation tree.now))))
-        (λ fault. option_map held (first_wrong tiles.now radius known.now (placed shape cells.old) (refutation tree.now)) ≡ Some fault.node) }
+        (λ count. (first_wrong sides.now.tiles.now radius known.now (placed shape cells.old) (refutation tree.now) ≡ None) × (count ≡ held (node_count (refutation tree.now))))
+        (λ fault. option_map held (first_wrong sides.now.tiles.now radius known.now (placed shape cells.old) (refutation tree.now)) ≡ Some fault.node) }
 {
     match tree {
         Tree::Cite { cell, axis } => {
@@ -136,13 +141,13 @@ fn walk(
         }
         Tree::Branch { cell, children } => {
             let cell = usize::from(*cell);
-            if !is_branching(tiles, shape, cells, cell, children.as_slice()) {
+            if !is_branching(sides, shape, cells, cell, children.as_slice()) {
                 return Err(TreeFault { node: 0 });
             }
             let mut count = 1usize;
             for child in children.as_slice() {
                 cells[cell] = Some(child.tile);
-                let judged = walk(tiles, radius, known, shape, cells, &child.tree);
+                let judged = walk(sides, radius, known, shape, cells, &child.tree);
                 cells[cell] = None;
                 match judged {
                     Ok(more) => count = count.saturating_add(more),
@@ -187,6 +192,7 @@ fn next_cell(axis: Axis, width: usize, cell: usize) -> usize
     }
 }
 
+/// As many free cells as the greatest window has.
 pub fn free_cells() -> [Option<u16>; 90]
     ensures { result ≡ replicate 90 None }
 {
@@ -194,8 +200,9 @@ pub fn free_cells() -> [Option<u16>; 90]
 }
 
 /// Judges a tree for the window of radius `radius` round a and b, b following a along the axis, with these
-/// known entries, which ascend by radius, axis, first and second tile: the first node, in preorder from 0, that names a wrong cell, has other tiles than those
-/// that fit, or cites what no known entry of lower radius says. Takes no memory.
+/// known entries, which ascend by radius, axis, first and second tile: the first node, in preorder from 0,
+/// that names a wrong cell, has other tiles than those that fit, or cites what no known entry of lower
+/// radius says. Takes no memory. Where many trees of a set are judged, `check_tree_in` is faster.
 #[tactic(auto, using(wt_tile::proofs::Sizes::few_tiles))]
 pub fn check_tree(
     set: SetRef<'_>,
@@ -212,13 +219,13 @@ pub fn check_tree(
         (λ _. tree_fault set.entry.list.now.tiles axis a b radius known.now tree.now ≡ None)
         (λ fault. tree_fault set.entry.list.now.tiles axis a b radius known.now tree.now ≡ Some fault.node) }
 {
-    check_pair(set.tiles(), axis, a, b, radius, known, tree)
+    check_tree_in(&Sides::new(set.tiles()), axis, a, b, radius, known, tree)
 }
 
-/// The same for the tiles of the set.
+/// The same as `check_tree` with the masks of the set's tiles, which many trees can share.
 #[tactic(auto, unfolding(crate::specs::Refutes::tree_fault))]
-fn check_pair(
-    tiles: &[Tile],
+pub fn check_tree_in(
+    sides: &Sides<'_>,
     axis: Axis,
     a: u16,
     b: u16,
@@ -227,17 +234,16 @@ fn check_pair(
     tree: &Tree,
 ) -> Result<(), TreeFault>
     requires radius { radius ≤ 4 }
-    requires few { length tiles.now ≤ 256 }
     requires in_order { ascends known.now ≡ true }
     ensures { MatchResult result
-        (λ _. tree_fault tiles.now axis a b radius known.now tree.now ≡ None)
-        (λ fault. tree_fault tiles.now axis a b radius known.now tree.now ≡ Some fault.node) }
+        (λ _. tree_fault sides.now.tiles.now axis a b radius known.now tree.now ≡ None)
+        (λ fault. tree_fault sides.now.tiles.now axis a b radius known.now tree.now ≡ Some fault.node) }
 {
     let shape = window_shape(axis, radius);
     let mut all = free_cells();
     let cells = &mut all[..shape.0 * shape.1];
     place_pair(axis, a, b, radius, shape, cells);
-    match walk(tiles, radius, known, shape, cells, tree) {
+    match walk(sides, radius, known, shape, cells, tree) {
         Ok(_) => Ok(()),
         Err(fault) => Err(fault),
     }
@@ -269,7 +275,7 @@ fn check_tile(tiles: &[Tile], tile: u16, radius: u8, tree: &Tree) -> Result<(), 
     let mut all = free_cells();
     let cells = &mut all[..side * side];
     place_tile(tile, radius, (side, side), cells);
-    match walk(tiles, radius, &[], (side, side), cells, tree) {
+    match walk(&Sides::new(tiles), radius, &[], (side, side), cells, tree) {
         Ok(_) => Ok(()),
         Err(fault) => Err(fault),
     }

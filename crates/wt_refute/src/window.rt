@@ -1,10 +1,9 @@
-// Windows with some of their tiles placed.
-ghost use Rattle.std.specs.Prelude.{◌≡◌, ◌+◌, ℕ, ◌-◌, ◌^◌, ◌<◌, ◌≤◌, [], ◌∷◌, length, MatchOption, None};
-ghost use Rattle.wt_refute.specs.Placed.{placed, passing};
+//! Windows with some of their tiles placed.
+ghost use Rattle.std.specs.Prelude.{◌≡◌, ◌^◌, ◌<◌};
+ghost use Rattle.wt_refute.specs.Placed.{placed};
 ghost use Rattle.wt_refute.specs.Placed as spec;
 
-use wt_tile::{Axis, Tile, is_match};
-
+/// The tile at a cell, where one is placed.
 pub fn tile_in(shape: (usize, usize), cells: &[Option<u16>], cell: usize) -> Option<u16>
     ensures { result ≡ spec.tile_in (placed shape cells.now) cell }
 {
@@ -15,6 +14,7 @@ pub fn tile_in(shape: (usize, usize), cells: &[Option<u16>], cell: usize) -> Opt
     }
 }
 
+/// Whether a cell of the window is free.
 pub fn is_free(shape: (usize, usize), cells: &[Option<u16>], cell: usize) -> bool
     ensures { result ≡ spec.is_free (placed shape cells.now) cell }
 {
@@ -27,6 +27,7 @@ pub fn is_free(shape: (usize, usize), cells: &[Option<u16>], cell: usize) -> boo
     }
 }
 
+/// The tile to the right of a cell, where one is placed.
 pub fn right_of(shape: (usize, usize), cells: &[Option<u16>], cell: usize) -> Option<u16>
     requires wide { 0 < shape.0 }
     requires small { shape.0 < 2 ^ 32 }
@@ -40,6 +41,7 @@ pub fn right_of(shape: (usize, usize), cells: &[Option<u16>], cell: usize) -> Op
     }
 }
 
+/// The tile above a cell, where one is placed.
 pub fn above(shape: (usize, usize), cells: &[Option<u16>], cell: usize) -> Option<u16>
     requires small { shape.0 < 2 ^ 32 }
     requires low { cell < 2 ^ 32 }
@@ -48,7 +50,8 @@ pub fn above(shape: (usize, usize), cells: &[Option<u16>], cell: usize) -> Optio
     tile_in(shape, cells, cell + shape.0)
 }
 
-fn left_of(shape: (usize, usize), cells: &[Option<u16>], cell: usize) -> Option<u16>
+/// The tile to the left of a cell, where one is placed.
+pub fn left_of(shape: (usize, usize), cells: &[Option<u16>], cell: usize) -> Option<u16>
     requires wide { 0 < shape.0 }
     ensures { result ≡ spec.left_of (placed shape cells.now) cell }
 {
@@ -59,7 +62,8 @@ fn left_of(shape: (usize, usize), cells: &[Option<u16>], cell: usize) -> Option<
     }
 }
 
-fn below(shape: (usize, usize), cells: &[Option<u16>], cell: usize) -> Option<u16>
+/// The tile below a cell, where one is placed.
+pub fn below(shape: (usize, usize), cells: &[Option<u16>], cell: usize) -> Option<u16>
     ensures { result ≡ spec.below (placed shape cells.now) cell }
 {
     if shape.0 <= cell {
@@ -67,60 +71,4 @@ fn below(shape: (usize, usize), cells: &[Option<u16>], cell: usize) -> Option<u1
     } else {
         None
     }
-}
-
-fn may_join(tiles: &[Tile], axis: Axis, a: Option<u16>, b: Option<u16>) -> bool
-    ensures { result ≡ spec.may_join tiles.now axis a b }
-{
-    match a {
-        None => true,
-        Some(a) => match b {
-            None => true,
-            Some(b) => is_match(tiles, axis, a, b),
-        },
-    }
-}
-
-/// Whether the tile matches every placed neighbour of the cell.
-pub fn fits_cell(
-    tiles: &[Tile],
-    shape: (usize, usize),
-    cells: &[Option<u16>],
-    cell: usize,
-    tile: u16,
-) -> bool
-    requires wide { 0 < shape.0 }
-    requires small { shape.0 < 2 ^ 32 }
-    requires low { cell < 2 ^ 32 }
-    ensures { result ≡ spec.fits_cell tiles.now (placed shape cells.now) cell tile }
-{
-    may_join(tiles, Axis::One, Some(tile), right_of(shape, cells, cell))
-        && may_join(tiles, Axis::Two, Some(tile), above(shape, cells, cell))
-        && may_join(tiles, Axis::One, left_of(shape, cells, cell), Some(tile))
-        && may_join(tiles, Axis::Two, below(shape, cells, cell), Some(tile))
-}
-
-/// The first tile from a number on that fits.
-#[tactic(auto, using(crate::proofs::Passing::passing_more))]
-pub fn next_fitting(
-    tiles: &[Tile],
-    shape: (usize, usize),
-    cells: &[Option<u16>],
-    cell: usize,
-    from: usize,
-) -> Option<usize>
-    requires wide { 0 < shape.0 }
-    requires small { shape.0 < 2 ^ 32 }
-    requires low { cell < 2 ^ 32 }
-    requires few { length tiles.now ≤ 65536 }
-    ensures { MatchOption result
-        (passing (spec.fits_cell tiles.now (placed shape cells.now) cell) from (length tiles.now - from) ≡ [])
-        (λ t. (t < length tiles.now) × (passing (spec.fits_cell tiles.now (placed shape cells.now) cell) from (length tiles.now - from) ≡ t ∷ passing (spec.fits_cell tiles.now (placed shape cells.now) cell) (t + 1) (length tiles.now - (t + 1)))) }
-{
-    for tile in from..tiles.len() {
-        if fits_cell(tiles, shape, cells, cell, tile as u16) {
-            return Some(tile);
-        }
-    }
-    None
 }
