@@ -1,5 +1,5 @@
 -- What the first answer of several says.
-use Rattle.std.proofs.Common.{arith, ◌≡◌, ◌⊎◌, ℕ, zero, suc, ◌+◌, ◌-◌, ◌≤◌, ◌<◌, Option, None, Some, is_some, if◌then◌else◌, refl, ap, inl, inr}
+use Rattle.std.proofs.Common.{arith, ◌≡◌, ◌⊎◌, ℕ, zero, suc, ◌+◌, ◌-◌, ◌≤◌, ◌<◌, Option, None, Some, is_some, if◌then◌else◌, refl, ap, ◌∙◌, inl, inr}
 use Rattle.std.specs.Option.{option_map}
 use Rattle.std.proofs.lemmas.Bool.{cases_lt}
 use Rattle.wt_grid.specs.First.{or_else, first_from, count_from}
@@ -21,6 +21,19 @@ none_from f i (suc n) k e low high =
       | inl lt ↦ none_from f (i + 1) n k both.1 (omega arith) (omega arith)
       | inr le ↦ let same : k ≡ i = omega arith in rw same both.0
     ]
+
+-- what is found stands at one of the numbers, and none stands before it
+pub first_found : {A : Type 0} (f : ℕ → Option A) (i n : ℕ) (a : A) → first_from f i n ≡ Some a
+    → (k : ℕ) × (k < i + n) × (f k ≡ Some a) × ((j : ℕ) → i ≤ j → j < k → f j ≡ None)
+first_found f i zero a e = absurd cc
+first_found {A} f i (suc n) a e = at_first (f i) refl (λ r. first_found f (i + 1) n a r)
+  where
+    at_first : (x : Option A) → f i ≡ x → (first_from f (i + 1) n ≡ Some a → (k : ℕ) × (k < i + 1 + n) × (f k ≡ Some a) × ((j : ℕ) → i + 1 ≤ j → j < k → f j ≡ None))
+        → (k : ℕ) × (k < i + suc n) × (f k ≡ Some a) × ((j : ℕ) → i ≤ j → j < k → f j ≡ None)
+    at_first None h r =
+        let s = r (rw h at e) in
+        (s.0, omega (arith, s.1), s.2, λ j lo hi. elim (cases_lt i j) [ inl lt ↦ s.3 j (omega arith) hi | inr le ↦ let same : j ≡ i = omega arith in rw same h ])
+    at_first (Some x) h r = (i, omega arith, h ∙ (rw h at e), λ j lo hi. absurd (omega arith))
 
 -- one more number counted
 pub count_more : {A : Type 0} (f : ℕ → Option A) (i n : ℕ) → i < n → count_from f i (n - i) ≡ (if is_some (f i) then 1 else 0) + count_from f (i + 1) (n - (i + 1))

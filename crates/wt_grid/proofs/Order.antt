@@ -1,9 +1,9 @@
 -- Look-ups in lists in strict order.
-use Rattle.std.proofs.Common.{arith, ◌≡◌, ◌≤◌, ◌-◌, List, [], ◌∷◌, ◌++◌, length, take, drop, get_or, Bool, true, false, Some, None, ◌&&◌, refl, sym, ◌∙◌, ap, subst, inl, inr, is_some}
-use Rattle.std.proofs.lemmas.Bool.{and_parts}
+use Rattle.std.proofs.Common.{arith, ℕ, ◌≡◌, ◌≤◌, ◌<◌, ◌-◌, List, [], ◌∷◌, ◌++◌, length, take, drop, get_or, slice_index, Bool, true, false, Some, None, ◌&&◌, refl, sym, ◌∙◌, ap, subst, inl, inr, is_some}
+use Rattle.std.proofs.lemmas.Bool.{and_parts, cases_order}
 use Rattle.std.specs.List.{list_any, find}
-use Rattle.std.proofs.lemmas.List.{take_all}
-use Rattle.wt_grid.specs.Order.{leads, in_order, AllAbove, IsSplit, agree}
+use Rattle.std.proofs.lemmas.List.{take_all, get_or-take}
+use Rattle.wt_grid.specs.Order.{leads, in_order, IsBefore, AllAbove, IsSplit, agree}
 
 pub has_found : {A : Type 0} (p : A → Bool) (xs : List A) → list_any p xs ≡ is_some (find p xs)
 has_found p [] = refl
@@ -135,3 +135,15 @@ pub agrees : (a b : Bool) → a ≡ b → agree a b ≡ true
 agrees true b e = sym e
 agrees false true e = absurd (cc e)
 agrees false false e = refl
+
+-- Lists of numbers in order: of two lists one at most comes before the other.
+
+same_below : (k j : ℕ) (f g : List ℕ) → take k f ≡ take k g → j < k → slice_index f j ≡ slice_index g j
+same_below k j f g e lt = sym (get_or-take k f j 0 lt) ∙ (ap (λ l. slice_index l j) e ∙ get_or-take k g j 0 lt)
+
+pub one_before : (f g : List ℕ) → IsBefore f g → IsBefore g f → ⊥
+one_before f g p q = let lower = p.2 in let higher = q.2 in elim (cases_order p.0 q.0) [
+  | inl e ↦ let at : slice_index g q.0 < slice_index f q.0 = higher in let here : slice_index f q.0 < slice_index g q.0 = rw e at lower in omega arith
+  | inr (inl lt) ↦ let same = same_below q.0 p.0 g f q.1 lt in omega arith
+  | inr (inr gt) ↦ let same = same_below p.0 q.0 f g p.1 gt in omega arith
+]

@@ -1,5 +1,5 @@
 -- Lists in strict order, and what stands in them.
-use Rattle.std.specs.Prelude.{ℕ, ◌≡◌, ◌⊎◌, List, [], ◌∷◌, Option, None, Some, Bool, true, false, ◌&&◌, ◌||◌, not, nat_lt, if◌then◌else◌}
+use Rattle.std.specs.Prelude.{ℕ, ◌≡◌, ◌<◌, ◌⊎◌, List, [], ◌∷◌, take, slice_index, Option, None, Some, Bool, true, false, ◌&&◌, ◌||◌, not, nat_lt, if◌then◌else◌}
 use Rattle.wt_grid.specs.First.{or_else}
 
 abbrev pub comes_before : ℕ → ℕ → Bool
@@ -19,6 +19,10 @@ in_order fits before (x ∷ xs) = fits x && leads before x xs && in_order fits b
 abbrev pub first_in : {A B : Type 0} → (A → Option B) → List A → Option B
 first_in f [] = None
 first_in f (x ∷ xs) = or_else (f x) (first_in f xs)
+
+-- The list f comes before g: where they first differ, f has the lower number.
+abbrev pub IsBefore : List ℕ → List ℕ → Type 0
+IsBefore f g = (k : ℕ) × (take k f ≡ take k g) × (slice_index f k < slice_index g k)
 
 abbrev pub is_below : ℕ → ℕ → Bool
 is_below n x = nat_lt x n
