@@ -7,7 +7,6 @@ use Rattle.std.proofs.lemmas.Bool.Decides.{nat_tests}
 use Rattle.wt_tile.specs.declared.tile.Tile.{Tile}
 use Rattle.wt_tile.specs.Matching.{tile_at}
 use Rattle.wt_grid.specs.First.{first_from}
-use Rattle.wt_grid.specs.Order.{agree}
 use Rattle.wt_grid.proofs.First.{none_from}
 use Rattle.wt_bijection.specs.Renaming.{all_from, pairs_up, tiles_pair_up, colours_fit_at, colours_fit, partner_fits, wrong_at, first_wrong, renaming_fault}
 use Rattle.wt_bijection.specs.Carried.{CarriesColours, IsRenaming}
@@ -17,10 +16,10 @@ use Rattle.wt_bijection.proofs.Colours.{stands, first_is, second_is}
 
 -- Booleans.
 
-equal_test : (a b : ℕ) → a ≡ b → nat_eq a b ≡ true
+pub equal_test : (a b : ℕ) → a ≡ b → nat_eq a b ≡ true
 equal_test a b e = grind (arith, nat_tests, e)
 
-test_equal : (a b : ℕ) → nat_eq a b ≡ true → a ≡ b
+pub test_equal : (a b : ℕ) → nat_eq a b ≡ true → a ≡ b
 test_equal a b e = grind (arith, nat_tests, e)
 
 -- What pairs up: equal colours have equal partners, and the other way round.
@@ -206,19 +205,19 @@ renaming from to list e =
 
 -- From a renaming to no fault.
 
-carry_ff : (f g : Tile → ℕ) (from to : List Tile) (list : List ℕ) → CarriesColours f g from to list → (i j : ℕ) → i < length from → j < length from
+pub carry_ff : (f g : Tile → ℕ) (from to : List Tile) (list : List ℕ) → CarriesColours f g from to list → (i j : ℕ) → i < length from → j < length from
     → pairs_up (f (tile_at from i)) (f (tile_at from j)) (f (tile_at to (slice_index list i))) (f (tile_at to (slice_index list j))) ≡ true
 carry_ff f g from to list c i j li lj = pair_up _ _ _ _
     (λ e. c.first i li ∙ (ap c.image e ∙ sym (c.first j lj)))
     (λ e. sym (c.first_back i li) ∙ (ap c.origin e ∙ c.first_back j lj))
 
-carry_fg : (f g : Tile → ℕ) (from to : List Tile) (list : List ℕ) → CarriesColours f g from to list → (i j : ℕ) → i < length from → j < length from
+pub carry_fg : (f g : Tile → ℕ) (from to : List Tile) (list : List ℕ) → CarriesColours f g from to list → (i j : ℕ) → i < length from → j < length from
     → pairs_up (f (tile_at from i)) (g (tile_at from j)) (f (tile_at to (slice_index list i))) (g (tile_at to (slice_index list j))) ≡ true
 carry_fg f g from to list c i j li lj = pair_up _ _ _ _
     (λ e. c.first i li ∙ (ap c.image e ∙ sym (c.second j lj)))
     (λ e. sym (c.first_back i li) ∙ (ap c.origin e ∙ c.second_back j lj))
 
-flipped : (f g : Tile → ℕ) (from to : List Tile) (list : List ℕ) → CarriesColours f g from to list → CarriesColours g f from to list
+pub flipped : (f g : Tile → ℕ) (from to : List Tile) (list : List ℕ) → CarriesColours f g from to list → CarriesColours g f from to list
 flipped f g from to list c =
     record { image = c.image; origin = c.origin; first = c.second; second = c.first; first_back = c.second_back; second_back = c.first_back }
 

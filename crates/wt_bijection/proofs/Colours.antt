@@ -1,17 +1,8 @@
 -- Colours that stand for colours, equal exactly where those are, are given by a map.
-use Rattle.std.proofs.Common.{arith, ◌≡◌, ◌<◌, ◌+◌, ℕ, zero, suc, Option, None, Some, unwrap_or, Bool, true, false, nat_eq, if◌then◌else◌, refl, sym, ◌∙◌}
+use Rattle.std.proofs.Common.{arith, ◌≡◌, ◌<◌, ℕ, Option, None, Some, unwrap_or, Bool, true, false, nat_eq, if◌then◌else◌, refl, sym, ◌∙◌}
 use Rattle.std.proofs.lemmas.Bool.Decides.{nat_tests}
 use Rattle.wt_grid.specs.First.{first_from}
-use Rattle.wt_grid.proofs.First.{none_from}
-
--- an answer stands at one of the numbers
-first_stands : {A : Type 0} (f : ℕ → Option A) (i n : ℕ) (a : A) → first_from f i n ≡ Some a → (k : ℕ) × (k < i + n) × (f k ≡ Some a)
-first_stands f i zero a e = absurd (cc e)
-first_stands f i (suc n) a e = go (f i) refl (λ r. first_stands f (i + 1) n a r)
-  where
-    go : (x : Option _) → f i ≡ x → (first_from f (i + 1) n ≡ Some a → (k : ℕ) × (k < i + 1 + n) × (f k ≡ Some a)) → (k : ℕ) × (k < i + suc n) × (f k ≡ Some a)
-    go None h r = let s = r (rw h at e) in (s.0, omega (arith, s.1), s.2)
-    go (Some x) h r = (i, omega arith, h ∙ (rw h at e))
+use Rattle.wt_grid.proofs.First.{none_from, first_found}
 
 -- The colours p i and q i stand on tile i, and p' i and q' i for them on its partner.
 
@@ -37,7 +28,7 @@ module _ (n : ℕ) (p q p' q' : ℕ → ℕ) where
       go : (a : Option ℕ) → first_from (stands_at p q p' q' c) 0 n ≡ a → stands n p q p' q' c ≡ d
       go None h = absurd (some (none_from (stands_at p q p' q' c) 0 n i h (omega arith) (omega arith)))
       go (Some x) h =
-          let s = first_stands (stands_at p q p' q' c) 0 n x h in
+          let s = first_found (stands_at p q p' q' c) 0 n x h in
           let is : x ≡ d = at_place s.0 x (omega (arith, s.1)) (nat_eq (p s.0) c) (nat_eq (q s.0) c) refl refl s.2 in
           rw h is
 

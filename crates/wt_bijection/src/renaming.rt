@@ -72,7 +72,7 @@ fn partner_fits(from: &[Tile], to: &[Tile], list: &[u16], i: u16) -> bool
 }
 
 #[tactic(auto, using(wt_grid::proofs::First::first_more))]
-fn wrong_number(from: &[Tile], to: &[Tile], list: &[u16]) -> Option<usize>
+pub(crate) fn wrong_number(from: &[Tile], to: &[Tile], list: &[u16]) -> Option<usize>
     requires few { length from.now ≤ 256 }
     requires whole { length from.now ≡ length list.now }
     ensures value { result ≡ first_wrong from.now to.now list.now }
