@@ -28,12 +28,13 @@ use Rattle.wt_pattern.specs.TileRows.{no_state}
 use Rattle.wt_pattern.proofs.SetTexts.{tiles_law, listed_fits, fits_listed}
 use Rattle.wt_cert.specs.LineForms.{Head, may_cite}
 use Rattle.wt_cert.specs.Trees.{tree_spelling, IsWritableTree}
-use Rattle.wt_cert.specs.Values.{tree_of}
+use Rattle.wt_refute.specs.Made.{tree_of}
+use Rattle.wt_refute.proofs.Made.{refutation-tree_of}
 use Rattle.wt_cert.specs.Parts.{tiles_part, numbers_part, allowed_part, to_refuted, refuted_row, with_refuted, refuted_part, to_lost, lost_row, with_lost, lost_part, images_part, to_marker, marker_part, to_restrict, restrict_part, block_part, link_part, with_link, next_step, steps_part, to_loop, end_behind, end_part, to_chain, chain_part, cert_part}
 use Rattle.wt_cert.specs.Seen.{refuted_view, lost_view}
 use Rattle.wt_cert.specs.Spelling.{line, count_tokens, numbers_tokens, axis_digit, tiles_lines, allowed_lines, radius_tokens, refuted_tokens, refuted_lines, lost_tokens, lost_lines, images_lines, marker_lines, restrict_lines, link_lines, blocks_lines, end_lines, cert_lines}
 use Rattle.wt_cert.specs.Fits.{AreWritableTiles, AreWritableNumbers, IsWritablePair, AreWritablePairs, IsWritableImage, AreWritableImages, IsWritableRefutation, IsWritableLoss, AreWritableRefutations, AreWritableLosses, IsWritableLink, IsWritableEnd, IsWritable}
-use Rattle.wt_cert.proofs.Standing.{refutation_of_tree, refuted_again, lost_again}
+use Rattle.wt_cert.proofs.Standing.{refuted_again, lost_again}
 use Rattle.wt_cert.proofs.Joined.{seen_by, same_part, behind_part, none_part}
 use Rattle.wt_cert.proofs.LineLaws.{alone_line, count_line, numbers_line, version_line, steps_line, KindFits, kind_tokens, head_line, allowed_line, pair_line, refuted_line, lost_line, image_line, end_tokens, EndLineFits, end_line}
 
@@ -68,7 +69,7 @@ refuted_one : (version : Version) (r nodes : ℕ) → IsPart (refuted_row versio
 unfolding refuted_row
 refuted_one version r nodes = seen_by to_refuted (line_spelling (refuted_tokens version)) (IsWritableRefutation version r nodes)
     (λ a fits.
-    let same : a.1.1.1.1 ≡ refutation (tree_of a.1.1.1.1) = sym (refutation_of_tree a.1.1.1.1) in (
+    let same : a.1.1.1.1 ≡ refutation (tree_of a.1.1.1.1) = sym (refutation-tree_of a.1.1.1.1) in (
       ap (λ (t : Refutation). line_of (axis_digit a.0 ∷ decimal a.1.0 ∷ decimal a.1.1.0 ∷ (radius_tokens version a.1.1.1.0 ++ tree_spelling t)) ∷ []) same,
       record { small_a = fits.1.0; small_b = fits.1.1.0; radius = fits.1.1.1.0; tree = subst (IsWritableTree (may_cite version) 90 nodes) same fits.1.1.1.1 },
     ))
@@ -83,7 +84,7 @@ lost_one : (nodes : ℕ) → IsPart (lost_row nodes) (line_spelling lost_tokens)
 unfolding lost_row
 lost_one nodes = seen_by to_lost (line_spelling lost_tokens) (IsWritableLoss nodes)
     (λ a fits.
-    let same : a.1 ≡ refutation (tree_of a.1) = sym (refutation_of_tree a.1) in
+    let same : a.1 ≡ refutation (tree_of a.1) = sym (refutation-tree_of a.1) in
     (ap (λ (t : Refutation). line_of (decimal a.0 ∷ tree_spelling t) ∷ []) same, record { small = fits.0; tree = subst (IsWritableTree true 90 nodes) same fits.1 }))
     (λ b fits. (lost_view b, lost_again b, (fits.small, fits.tree)))
     (line_part (lost_line nodes))

@@ -9,7 +9,7 @@ use Rattle.wt_line.specs.declared.faults.What.{What}
 use Rattle.wt_line.specs.declared.faults.What.TheVariants.{Tiles, Nodes, Depth, Number}
 use Rattle.wt_text.specs.Words.{number}
 use Rattle.wt_text.specs.Readers.{LineFault, past}
-use Rattle.wt_text.proofs.Numbers.{number_found}
+use Rattle.wt_text.proofs.Numbers.{number_found, some_is}
 use Rattle.wt_text.proofs.Texts.{then_ok, ok_is, ok_pair}
 use Rattle.wt_refute.specs.Refutation.{Refutation, Branches, branch, cite, no_more, more, node_count}
 use Rattle.wt_cert.specs.Trees.{branch_count, axis_word, tree_spelling, branches_spelling, Ending, children, cites, ending, limited, cell_in, ending_in, branches_in, grown, tree_in, IsWritableTree, AreWritableBranches}
@@ -41,9 +41,6 @@ ending_spelling (cites axis) = axis_word axis
 abbrev pub EndingFits : Bool → Ending → Type 0
 EndingFits citing (children n) = n ≤ 256
 EndingFits citing (cites axis) = citing ≡ true
-
-some_is : {A : Type 0} (x y : A) → Some x ≡ Some y → x ≡ y
-some_is x y e = cc
 
 counts : (r : Option ℕ) (e : Ending) → option_map children r ≡ Some e → (n : ℕ) × (r ≡ Some n) × (e ≡ children n)
 counts None e h = absurd cc

@@ -48,12 +48,6 @@ refutation_written out word a b c d e f n m x y rs ts en em ea eb ec ed ee ef = 
 
 -- ---- trees
 
-pub branch_view : (cell : ℕ) (cs : List Child) → refutation (tree.Branch cell cs) ≡ branch cell (children_view cs)
-branch_view cell cs = ap refutation (sym (rolls-Branch cell cs)) ∙ tree.fold-roll-Tree Refutation (ℕ × Refutation) tree_step child_step (Tree-F.Branch cell cs)
-
-pub cite_view : (cell : ℕ) (axis : Axis) → refutation (tree.Cite cell axis) ≡ cite cell axis
-cite_view cell axis = ap refutation (sym (rolls-Cite cell axis)) ∙ tree.fold-roll-Tree Refutation (ℕ × Refutation) tree_step child_step (Tree-F.Cite cell axis)
-
 count_children : (cs : List Child) → branch_count (children_view cs) ≡ length cs
 count_children [] = refl
 count_children (c ∷ cs) = ap suc (count_children cs)

@@ -25,23 +25,29 @@ use Rattle.wt_cert.specs.Parts.{with_refuted, with_lost, with_link}
 abbrev pub IsSmall : ℕ → Type 0
 IsSmall n = n ≤ 65535
 
+-- at most 256 tiles, whose colours are numbered by first coming and named
 pub record AreWritableTiles (list : TileList) : Type 0 where
   pub few : length list.tiles ≤ 256
   pub listed : IsListed list
 
+-- at most 256 numbers within the limit
 abbrev pub AreWritableNumbers : List ℕ → Type 0
 AreWritableNumbers ns = (length ns ≤ 256) × AllFit IsSmall ns
 
+-- both numbers of a pair are within the limit
 abbrev pub IsWritablePair : ℕ × ℕ → Type 0
 IsWritablePair x = IsSmall x.0 × IsSmall x.1
 
+-- at most 65,536 such pairs
 abbrev pub AreWritablePairs : List (ℕ × ℕ) → Type 0
 AreWritablePairs xs = (length xs ≤ 65536) × AllFit IsWritablePair xs
 
+-- the tiles of an image are within the limit
 abbrev pub IsWritableImage : Image → Type 0
 IsWritableImage (Single u) = IsSmall u
 IsWritableImage (Double u v) = IsSmall u × IsSmall v
 
+-- at most 256 such images
 abbrev pub AreWritableImages : List Image → Type 0
 AreWritableImages xs = (length xs ≤ 256) × AllFit IsWritableImage xs
 
@@ -57,16 +63,20 @@ pub record IsWritableRefutation (version : Version) (r nodes : ℕ) (x : Refuted
   pub radius : IsWritableRadius version r x.radius
   pub tree : IsWritableTree (may_cite version) 90 nodes (refutation x.tree)
 
+-- a lost tile, where so many nodes came before
 pub record IsWritableLoss (nodes : ℕ) (x : Lost) : Type 0 where
   pub small : IsSmall x.tile
   pub tree : IsWritableTree true 90 nodes (refutation x.tree)
 
+-- at most 131,072 refutations, each with the nodes of those before it
 abbrev pub AreWritableRefutations : Version → ℕ → ℕ → List Refuted → Type 0
 AreWritableRefutations version r nodes xs = (length xs ≤ 131072) × FitInTurn (IsWritableRefutation version r) with_refuted nodes xs
 
+-- at most 256 lost tiles, each with the nodes of those before it
 abbrev pub AreWritableLosses : ℕ → List Lost → Type 0
 AreWritableLosses nodes xs = (length xs ≤ 256) × FitInTurn IsWritableLoss with_lost nodes xs
 
+-- a marker step, where so many nodes came before
 pub record IsWritableMarker (version : Version) (nodes : ℕ) (s : RawStep) : Type 0 where
   pub radius : s.radius ≤ 4
   pub fine : AreWritableTiles s.fine
@@ -77,6 +87,7 @@ pub record IsWritableMarker (version : Version) (nodes : ℕ) (s : RawStep) : Ty
   pub refuted : AreWritableRefutations version s.radius nodes s.refuted
   pub images : AreWritableImages s.images
 
+-- a restrict step, where so many nodes came before
 pub record IsWritableRestrict (nodes : ℕ) (s : RawRestrict) : Type 0 where
   pub radius : s.radius ≤ 4
   pub fine : AreWritableTiles s.fine
@@ -90,6 +101,7 @@ IsWritableLink version nodes (Marker s) = IsWritableMarker version nodes s
 IsWritableLink versions.One nodes (Restrict s) = ⊥
 IsWritableLink versions.Two nodes (Restrict s) = IsWritableRestrict nodes s
 
+-- the level of a loop within the limit, at most 256 turns, and a list of numbers
 abbrev pub IsWritableEnd : End → Type 0
 IsWritableEnd Open = Unit {0}
 IsWritableEnd (Loop start renaming expansion) = IsSmall start × (expansion ≤ 256) × AreWritableNumbers renaming

@@ -1,4 +1,3 @@
-pub mod Values
 pub mod Trees
 pub mod LineForms
 pub mod Parts

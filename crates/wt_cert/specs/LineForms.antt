@@ -20,12 +20,15 @@ use Rattle.wt_cert.specs.Trees.{tree_to_end}
 abbrev pub small : List (List ℕ) → Option (Result ℕ What × List (List ℕ))
 small = number_to 65535 Number
 
+-- a radius, at most 4
 abbrev pub radius : List (List ℕ) → Option (Result ℕ What × List (List ℕ))
 radius = number_to 4 Radius
 
+-- 1 or 2 for an axis
 abbrev pub axis : List (List ℕ) → Option (Result Axis What × List (List ℕ))
 axis = either_word (codes "1") One (codes "2") Two
 
+-- the side on which a marker stands
 abbrev pub side : List (List ℕ) → Option (Result Side What × List (List ℕ))
 side = either_word (codes "after") After (codes "before") Before
 
@@ -43,15 +46,18 @@ numbers_form w = whole (value_behind w (counted_numbers 256 Tiles 65535 Number))
 
 -- ---- certificate 1, or certificate 2
 
+-- the first line of a certificate
 unfoldable pub version_form : List (List ℕ) → Result Version (LineFault What)
 version_form = whole (value_behind (codes "certificate") (either_word (codes "1") versions.One (codes "2") versions.Two))
 
 -- ---- steps S, where S is at least 1
 
+-- a number of steps from 1 on, at most 32
 abbrev pub step_count : List (List ℕ) → Option (Result ℕ What × List (List ℕ))
 step_count [] = None
 step_count (t ∷ ts) = number t >>= λ n. if nat_eq n 0 then None else Some (within 32 Steps n, ts)
 
+-- the line that says how many steps follow
 unfoldable pub steps_form : List (List ℕ) → Result ℕ (LineFault What)
 steps_form = whole (value_behind (codes "steps") step_count)
 
@@ -61,6 +67,7 @@ steps_form = whole (value_behind (codes "steps") step_count)
 abbrev pub marker_head : List (List ℕ) → Option (Result (Axis × (Side × ℕ)) What × List (List ℕ))
 marker_head = both axis (value_behind (codes "side") (both side (value_behind (codes "radius") radius)))
 
+-- the radius of a restrict step
 abbrev pub restrict_head : List (List ℕ) → Option (Result ℕ What × List (List ℕ))
 restrict_head = value_behind (codes "radius") radius
 
@@ -68,18 +75,22 @@ restrict_head = value_behind (codes "radius") radius
 abbrev pub Head : Type 0
 Head = Either (Axis × (Side × ℕ)) ℕ
 
+-- what stands after the number of a step: in version one a marker step, in version two a step of either kind
 abbrev pub kind_of_step : Version → List (List ℕ) → Option (Result Head What × List (List ℕ))
 kind_of_step versions.One ts = seen_value first (value_behind (codes "axis") marker_head ts)
 kind_of_step versions.Two ts = either_behind (codes "axis") marker_head (codes "restrict") restrict_head ts
 
+-- the first line of the block of step k
 unfoldable pub head_form : Version → ℕ → List (List ℕ) → Result Head (LineFault What)
 head_form version k = whole (value_behind (codes "step") (value_behind (decimal k) (kind_of_step version)))
 
 -- ---- allowed 1 c, or allowed 2 c: a b
 
+-- the line that says how many allowed pairs of an axis follow
 unfoldable pub allowed_form : List ℕ → List (List ℕ) → Result ℕ (LineFault What)
 allowed_form a = whole (value_behind (codes "allowed") (value_behind a (number_to 65536 Pairs)))
 
+-- an allowed pair
 unfoldable pub pair_form : List (List ℕ) → Result (ℕ × ℕ) (LineFault What)
 pair_form = whole (both small small)
 
@@ -90,20 +101,24 @@ abbrev pub may_cite : Version → Bool
 may_cite versions.One = false
 may_cite versions.Two = true
 
+-- the radius of a refutation: in version one that of the step, which isn't written
 abbrev pub radius_in : Version → ℕ → List (List ℕ) → Option (Result ℕ What × List (List ℕ))
 radius_in versions.One r ts = given r ts
 radius_in versions.Two r ts = radius ts
 
+-- a refutation, after trees of so many nodes
 unfoldable pub refuted_form : Version → ℕ → ℕ → List (List ℕ) → Result (Axis × (ℕ × (ℕ × (ℕ × Refutation)))) (LineFault What)
 refuted_form version r nodes = whole (both axis (both small (both small (both (radius_in version r) (tree_to_end (may_cite version) nodes)))))
 
 -- ---- lost: t TREE
 
+-- a lost tile with its tree, after trees of so many nodes
 unfoldable pub lost_form : ℕ → List (List ℕ) → Result (ℕ × Refutation) (LineFault What)
 lost_form nodes = whole (both small (tree_to_end true nodes))
 
 -- ---- images: u, or u v
 
+-- an image of two tiles
 abbrev pub image_of : ℕ × ℕ → Image
 image_of x = Double x.0 x.1
 
@@ -112,13 +127,16 @@ abbrev pub image_behind : Result ℕ What → List (List ℕ) → Option (Result
 image_behind u [] = Some (mapped Single u, [])
 image_behind u (t ∷ ts) = small (t ∷ ts) >>= λ v. Some (mapped image_of (pair u v.0), v.1)
 
+-- an image, as tokens
 abbrev pub image_in : List (List ℕ) → Option (Result Image What × List (List ℕ))
 image_in ts = small ts >>= λ u. image_behind u.0 u.1
 
+-- an image
 unfoldable pub image_form : List (List ℕ) → Result Image (LineFault What)
 image_form = whole image_in
 
 -- ---- open, or loop START E
 
+-- how the chain ends; a loop names its level and its turns, at most 256
 unfoldable pub end_form : List (List ℕ) → Result (Either (Unit {0}) (ℕ × ℕ)) (LineFault What)
 end_form = whole (either_behind (codes "open") (given tt) (codes "loop") (both small (number_to 256 Expansion)))

@@ -12,15 +12,16 @@ use Rattle.wt_step.specs.declared.raw.RawLink.{RawLink}
 use Rattle.wt_chain.specs.declared.raw.Version.{Version}
 use Rattle.wt_text.specs.Readers.{TextFault, Either, first, second}
 use Rattle.wt_cert.specs.Parts.{link_part}
-use Rattle.wt_cert.specs.declared.build.Ending.{Ending}
-use Rattle.wt_cert.specs.declared.build.Ending.TheVariants.{Children, Cites}
-use Rattle.wt_cert.specs.declared.heads.Head as heads
-use Rattle.wt_cert.specs.declared.heads.Head.TheVariants.{Marker, Restrict}
-use Rattle.wt_cert.specs.declared.heads.EndLine.{EndLine}
-use Rattle.wt_cert.specs.declared.heads.EndLine.TheVariants.{Open, Loop}
+use Rattle.wt_cert.specs.declared.read.trees.Ending.{Ending}
+use Rattle.wt_cert.specs.declared.read.trees.Ending.TheVariants.{Children, Cites}
+use Rattle.wt_cert.specs.declared.read.heads.Head as heads
+use Rattle.wt_cert.specs.declared.read.heads.Head.TheVariants.{Marker, Restrict}
+use Rattle.wt_cert.specs.declared.read.heads.EndLine.{EndLine}
+use Rattle.wt_cert.specs.declared.read.heads.EndLine.TheVariants.{Open, Loop}
 use Rattle.wt_cert.specs.LineForms.{Head}
 use Rattle.wt_cert.specs.Trees as trees
 
+-- what the code read after a cell
 abbrev pub ending_view : Ending → trees.Ending
 ending_view (Children n) = trees.children n
 ending_view (Cites axis) = trees.cites axis
@@ -30,17 +31,21 @@ abbrev pub led_by : List (ℕ × Refutation) → Branches → Branches
 led_by [] b = b
 led_by (x ∷ xs) b = more x.0 x.1 (led_by xs b)
 
+-- what the code read of the first line of a block
 abbrev pub head_view : heads.Head → Head
 head_view (Marker axis side radius) = first (axis, (side, radius))
 head_view (Restrict radius) = second radius
 
+-- what the code read of the line of the end
 abbrev pub end_view : EndLine → Either (Unit {0}) (ℕ × ℕ)
 end_view Open = first tt
 end_view (Loop start expansion) = second (start, expansion)
 
+-- what is written of a refutation
 abbrev pub refuted_view : Refuted → Axis × (ℕ × (ℕ × (ℕ × Refutation)))
 refuted_view r = (r.axis, (r.a, (r.b, (r.radius, refutation r.tree))))
 
+-- what is written of a lost tile
 abbrev pub lost_view : Lost → ℕ × Refutation
 lost_view x = (x.tile, refutation x.tree)
 
@@ -49,10 +54,6 @@ abbrev pub with_number : {W : Type 0} → Result (List ℕ) W → Result ℕ W �
 with_number (Ok ns) (Ok n) = Ok (ns ++ n ∷ [])
 with_number (Ok ns) (Err w) = Err w
 with_number (Err w) r = Err w
-
--- the number of the next line, and the lines that are left
-abbrev pub at : Place → ℕ × List Line
-at p = (p.number, lines p.bytes.now)
 
 -- the reader of the block of the step that a state gives
 abbrev pub link_at_step : Version → ℕ × ℕ → ℕ × List Line → Result (RawLink × (ℕ × List Line)) (TextFault What)

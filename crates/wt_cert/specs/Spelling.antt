@@ -34,17 +34,21 @@ line ts = line_of ts ∷ []
 abbrev pub count_tokens : List ℕ → ℕ → List (List ℕ)
 count_tokens w n = w ∷ decimal n ∷ []
 
+-- a word, a count, and these numbers
 abbrev pub numbers_tokens : List ℕ → List ℕ → List (List ℕ)
 numbers_tokens w ns = w ∷ decimal (length ns) ∷ map decimal ns
 
+-- the number of a version
 abbrev pub version_word : Version → List ℕ
 version_word versions.One = codes "1"
 version_word versions.Two = codes "2"
 
+-- 1 or 2 for an axis
 abbrev pub axis_digit : Axis → List ℕ
 axis_digit One = codes "1"
 axis_digit Two = codes "2"
 
+-- the word of a side
 abbrev pub side_word : Side → List ℕ
 side_word After = codes "after"
 side_word Before = codes "before"
@@ -57,6 +61,7 @@ tiles_lines w list = line (count_tokens w (length list.tiles)) ++ rows_spelling 
 abbrev pub pair_tokens : ℕ × ℕ → List (List ℕ)
 pair_tokens x = decimal x.0 ∷ decimal x.1 ∷ []
 
+-- the list of the allowed pairs of an axis
 abbrev pub allowed_lines : List ℕ → List (ℕ × ℕ) → List Line
 allowed_lines a xs = line (codes "allowed" ∷ count_tokens a (length xs)) ++ flat_map (line_spelling pair_tokens) xs
 
@@ -65,9 +70,11 @@ abbrev pub radius_tokens : Version → ℕ → List (List ℕ)
 radius_tokens versions.One r = []
 radius_tokens versions.Two r = decimal r ∷ []
 
+-- a refutation
 abbrev pub refuted_tokens : Version → Refuted → List (List ℕ)
 refuted_tokens version x = axis_digit x.axis ∷ decimal x.a ∷ decimal x.b ∷ (radius_tokens version x.radius ++ tree_spelling (refutation x.tree))
 
+-- the list of a step's refutations
 abbrev pub refuted_lines : Version → List Refuted → List Line
 refuted_lines version xs = line (count_tokens (codes "refuted") (length xs)) ++ flat_map (line_spelling (refuted_tokens version)) xs
 
@@ -75,6 +82,7 @@ refuted_lines version xs = line (count_tokens (codes "refuted") (length xs)) ++ 
 abbrev pub lost_tokens : Lost → List (List ℕ)
 lost_tokens x = decimal x.tile ∷ tree_spelling (refutation x.tree)
 
+-- the list of a step's lost tiles
 abbrev pub lost_lines : List Lost → List Line
 lost_lines xs = line (count_tokens (codes "lost") (length xs)) ++ flat_map (line_spelling lost_tokens) xs
 
@@ -83,14 +91,17 @@ abbrev pub image_tokens : Image → List (List ℕ)
 image_tokens (Single u) = decimal u ∷ []
 image_tokens (Double u v) = decimal u ∷ decimal v ∷ []
 
+-- the list of a step's images
 abbrev pub images_lines : List Image → List Line
 images_lines xs = line (count_tokens (codes "images") (length xs)) ++ flat_map (line_spelling image_tokens) xs
 
 -- ---- the block of step k
 
+-- the first line of the block of a marker step
 abbrev pub marker_head : ℕ → RawStep → List (List ℕ)
 marker_head k s = codes "step" ∷ decimal k ∷ codes "axis" ∷ axis_digit s.axis ∷ codes "side" ∷ side_word s.side ∷ codes "radius" ∷ decimal s.radius ∷ []
 
+-- the block of a marker step
 unfoldable pub marker_lines : Version → ℕ → RawStep → List Line
 marker_lines version k s =
     line (marker_head k s) ++
@@ -102,9 +113,11 @@ marker_lines version k s =
     (refuted_lines version s.refuted ++
     images_lines s.images))))))
 
+-- the first line of the block of a restrict step
 abbrev pub restrict_head : ℕ → RawRestrict → List (List ℕ)
 restrict_head k s = codes "step" ∷ decimal k ∷ codes "restrict" ∷ codes "radius" ∷ decimal s.radius ∷ []
 
+-- the block of a restrict step
 unfoldable pub restrict_lines : ℕ → RawRestrict → List Line
 restrict_lines k s =
     line (restrict_head k s) ++
@@ -113,6 +126,7 @@ restrict_lines k s =
     (line (numbers_tokens (codes "kept") s.kept) ++
     lost_lines s.lost)))
 
+-- the block of a step of either kind
 abbrev pub link_lines : Version → ℕ → RawLink → List Line
 link_lines version k (Marker s) = marker_lines version k s
 link_lines version k (Restrict s) = restrict_lines k s
@@ -124,10 +138,12 @@ blocks_lines version k (x ∷ xs) = link_lines version k x ++ blocks_lines versi
 
 -- ---- the end, and a certificate whole
 
+-- how the chain ends
 abbrev pub end_lines : End → List Line
 end_lines Open = line (codes "open" ∷ [])
 end_lines (Loop start renaming expansion) = line (codes "loop" ∷ decimal start ∷ decimal expansion ∷ []) ++ line (numbers_tokens (codes "renaming") renaming)
 
+-- the text of a chain, line by line
 unfoldable pub cert_lines : RawChain → List Line
 cert_lines c =
     line (codes "certificate" ∷ version_word c.version ∷ []) ++

@@ -10,6 +10,7 @@ use Rattle.wt_text.specs.Words.{number, is_decimal}
 use Rattle.wt_text.specs.Readers.{◌then◌, LineFault, wrong, past}
 use Rattle.wt_refute.specs.Refutation.{Refutation, Branches, branch, cite, no_more, more, node_count}
 
+-- how many children a node has
 abbrev pub branch_count : Branches → ℕ
 branch_count no_more = 0
 branch_count (more tile tree others) = suc (branch_count others)
@@ -34,9 +35,11 @@ pub data Ending : Type 0 where
   children : ℕ → Ending
   cites : Axis → Ending
 
+-- the token after a cell, read as one of these
 abbrev pub ending : Bool → List ℕ → Option Ending
 ending citing t = if citing && bytes_eq t (codes "c1") then Some (cites One) else if citing && bytes_eq t (codes "c2") then Some (cites Two) else option_map children (number t)
 
+-- there is such an ending
 abbrev pub is_ending : Option Ending → Bool
 is_ending None = false
 is_ending (Some e) = true
@@ -55,18 +58,21 @@ held_owed (Some (cites axis)) = Some 0
 
 -- ---- the form: each node owes its children, and a line ends where nothing is owed
 
+-- the tokens are these many children, each with a tile and a tree, and no more
 abbrev pub is_forest : Bool → ℕ → List (List ℕ) → Bool
 is_forest citing zero [] = true
 is_forest citing zero (t ∷ ts) = false
 is_forest citing (suc n) (tile ∷ cell ∷ count ∷ ts) = (is_decimal tile && is_decimal cell && is_ending (ending citing count)) && is_forest citing (n + owed_by (ending citing count)) ts
 is_forest citing (suc n) ts = false
 
+-- the tokens are one tree
 abbrev pub is_tree : Bool → List (List ℕ) → Bool
 is_tree citing (cell ∷ count ∷ ts) = (is_decimal cell && is_ending (ending citing count)) && is_forest citing (owed_by (ending citing count)) ts
 is_tree citing ts = false
 
 -- ---- the limits, from left to right
 
+-- a number of at most this size, else the limit that it passes
 abbrev pub limited : ℕ → What → Option ℕ → Result ℕ (LineFault What)
 limited most what None = Err wrong
 limited most what (Some n) = if nat_le n most then Ok n else Err (past what)
@@ -75,6 +81,7 @@ limited most what (Some n) = if nat_le n most then Ok n else Err (past what)
 abbrev pub cell_in : ℕ → List ℕ → Result ℕ (LineFault What)
 cell_in nodes t = if nat_lt nodes 1048576 then limited 65535 Number (number t) else Err (past Nodes)
 
+-- at most 256 children
 abbrev pub ending_in : Option Ending → Result Ending (LineFault What)
 ending_in None = Err wrong
 ending_in (Some (children n)) = if nat_le n 256 then Ok (children n) else Err (past Tiles)
@@ -86,6 +93,7 @@ branches_in read zero nodes ts = Ok (no_more, ts)
 branches_in read (suc n) nodes [] = Err wrong
 branches_in read (suc n) nodes (tile ∷ ts) = limited 65535 Number (number tile) then λ t. read nodes ts then λ x. branches_in read n (nodes + node_count x.0) x.1 then λ b. Ok (more t x.0 b.0, b.1)
 
+-- the tree of a cell and what stands after it
 abbrev pub grown : (ℕ → List (List ℕ) → Result (Refutation × List (List ℕ)) (LineFault What)) → ℕ → ℕ → List (List ℕ) → Ending → Result (Refutation × List (List ℕ)) (LineFault What)
 grown read cell nodes ts (cites axis) = Ok (cite cell axis, ts)
 grown read cell nodes ts (children n) = branches_in read n nodes ts then λ b. Ok (branch cell b.0, b.1)
@@ -100,6 +108,7 @@ tree_in citing zero nodes ts = too_deep nodes
 tree_in citing (suc levels) nodes (cell ∷ count ∷ ts) = cell_in nodes cell then λ c. ending_in (ending citing count) then λ e. grown (tree_in citing levels) c (nodes + 1) ts e
 tree_in citing (suc levels) nodes ts = Err wrong
 
+-- the tree, or the limit that it passes; a line whose form is right has one of these
 abbrev pub found_tree : Result (Refutation × List (List ℕ)) (LineFault What) → Option (Result Refutation What × List (List ℕ))
 found_tree (Ok x) = Some (Ok x.0, x.1)
 found_tree (Err (past what)) = Some (Err what, [])

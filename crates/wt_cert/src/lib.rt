@@ -1,20 +1,15 @@
-//! The text of a certificate: read with its exact value or its first fault, over both versions, steps of both kinds and both ends.
+//! The text of a certificate: read with its exact value or its first fault, over both versions, steps of both
+//! kinds and both ends. `read` goes down the parts of a text, and its modules read lists of lines, lines, and
+//! what stands in a line: a tree is first asked for its form, and then read within its limits. `write` writes
+//! the same parts.
 #![tactic(auto)]
 
-mod build;
-mod cert;
-mod chains;
-mod forms;
-mod heads;
 mod laws;
-mod lists;
-mod numbers;
-mod rows;
+mod read;
 #[cfg(test)]
 mod tests;
-mod words;
 mod write;
 
-pub use cert::{read_cert, read_chain};
-pub use chains::write_cert;
 pub use laws::certificates_are_exact;
+pub use read::{read_cert, read_chain};
+pub use write::write_cert;

@@ -1,0 +1,84 @@
+// Lists of numbers in a line.
+ghost use Rattle.std.specs.Prelude.{◌≡◌, ◌≤◌, ◌+◌, ◌<◌, [], IfOk, OnErr, IsErrOf, length};
+ghost use Rattle.wt_line.specs.declared.faults.What.TheVariants.{Tiles, Number};
+ghost use Rattle.wt_line.specs.declared.faults.LineFault.TheVariants.{OutOfMemory};
+ghost use Rattle.wt_line.specs.Faults.{ReadsTokens, ReadsLine};
+ghost use Rattle.wt_text.specs.Words.{tokens};
+ghost use Rattle.wt_text.specs.Readers.{mapped, numbers_to};
+ghost use Rattle.wt_text.specs.Readers as spec;
+ghost use Rattle.wt_cert.specs.LineForms.{numbers_form};
+ghost use Rattle.wt_cert.specs.Seen.{with_number};
+ghost use Rattle.wt_line.specs.Left.{tokens_left};
+
+use crate::read::words::small;
+use std::alloc::Global;
+use wt_line::{LineFault, Rest, What, next_token, number, word};
+
+const MAX_NUMBERS: u64 = 256;
+
+/// One number more, where no number so far is past its limit.
+fn and_number(
+    front: Result<Vec<u16>, What>,
+    number: Result<u16, What>,
+) -> Result<Result<Vec<u16>, What>, LineFault>
+    ensures value { IfOk result (λ r. mapped (λ v. v.items) r ≡ with_number (mapped (λ v. v.items) front) number) }
+    ensures fault { OnErr result (IsErrOf result OutOfMemory) }
+{
+    match front {
+        Err(what) => Ok(Err(what)),
+        Ok(mut numbers) => match number {
+            Err(what) => Ok(Err(what)),
+            Ok(number) => {
+                numbers.push(number)?;
+                Ok(Ok(numbers))
+            }
+        },
+    }
+}
+
+/// The numbers to the end of a line, and how many they are.
+fn numbers_to_end(alloc: Global, rest: Rest<'_>) -> Result<(Result<Vec<u16>, What>, u64), LineFault>
+    ensures read { ReadsTokens (λ x. mapped (λ v. v.items) x.0) result (numbers_to 65535 Number (tokens_left rest.entry)) }
+    ensures count { IfOk result (λ x. x.1 ≡ length (tokens_left rest.entry)) }
+{
+    let mut numbers = Ok(Vec::new(alloc));
+    let mut count = 0u64;
+    let mut rest = rest;
+    while rest.more {
+        let (number, after) = small(rest)?;
+        numbers = and_number(numbers, number)?;
+        count += 1;
+        rest = after;
+    }
+    Ok((numbers, count))
+}
+
+/// A count, and so many numbers to the end of the line.
+fn counted_numbers(alloc: Global, rest: Rest<'_>) -> Result<Result<Vec<u16>, What>, LineFault>
+    ensures { ReadsTokens (λ x. (mapped (λ v. v.items) x, [])) result (spec.counted_numbers 256 Tiles 65535 Number (tokens_left rest.entry)) }
+{
+    let Some((token, rest)) = next_token(rest) else {
+        return Err(LineFault::Wrong);
+    };
+    let Some(many) = number(token) else {
+        return Err(LineFault::Wrong);
+    };
+    let (numbers, count) = numbers_to_end(alloc, rest)?;
+    if count != many {
+        return Err(LineFault::Wrong);
+    }
+    if many > MAX_NUMBERS {
+        return Ok(Err(What::Tiles));
+    }
+    Ok(numbers)
+}
+
+/// A word, a count, and so many numbers, as `markers m t1 .. tm`.
+#[tactic(auto, unfolding(crate::specs::LineForms::numbers_form, wt_text::specs::Readers::whole, wt_text::specs::Readers::value_behind))]
+pub fn numbers_row(alloc: Global, name: &str, line: &[u8]) -> Result<Vec<u16>, LineFault>
+    ensures { ReadsLine (λ v. v.items) result (numbers_form name.now (tokens line.now)) }
+{
+    let rest = word(name, Rest::new(line))?;
+    let numbers = counted_numbers(alloc, rest)?;
+    Ok(numbers?)
+}
