@@ -6,7 +6,7 @@ ghost use Rattle.wt_check.specs.Texts.{sizes_behind};
 ghost use Rattle.wt_check.specs.Texts as texts;
 
 use std::alloc::{AllocError, Global};
-use wt_chain::{Accepted, End, RawChain, coarse_set, fine_set};
+use wt_chain::{Accepted, End, RawChain, coarse_set, first_count};
 use wt_step::RawLink;
 
 fn end_word(end: &End) -> &'static str
@@ -19,15 +19,6 @@ fn end_word(end: &End) -> &'static str
             renaming: _,
             expansion: _,
         } => "looped",
-    }
-}
-
-fn first_count(links: &[RawLink]) -> usize
-    ensures { result ≡ sets.first_count links.now }
-{
-    match links {
-        [] => 0,
-        [first, ..] => fine_set(first).tiles.as_slice().len(),
     }
 }
 
@@ -62,7 +53,8 @@ fn add_loop(text: &mut String, end: &End) -> Result<(), AllocError>
     }
 }
 
-/// The report of a good chain: whether it is open or looped, the numbers of tiles of its sets, and for a loop where it starts and how many turns make images grow. Each line ends with a newline.
+/// The report of a good chain: whether it is open or looped, the numbers of tiles of its sets, and for a loop
+/// where it starts and how many turns make images grow. Each line ends with a newline.
 pub fn report(alloc: Global, chain: &Accepted) -> Result<Vec<u8>, AllocError>
     ensures { IfOk result (λ bytes. bytes.items ≡ texts.report_text chain.now) }
 {

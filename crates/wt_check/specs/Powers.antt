@@ -1,0 +1,80 @@
+-- What so many turns of a loop make of a tile of its first set, and how often a tile stands there.
+use Rattle.std.specs.Prelude.{◌≡◌, ℕ, zero, suc, ◌+◌, ◌*◌, ◌^◌, ◌<◌, ◌≤◌, nat_eq, if◌then◌else◌, List, [], ◌∷◌, length, slice_index, Option, MatchOption}
+use Rattle.wt_grid.specs.Traces.{piece_tiles}
+use Rattle.wt_tile.specs.declared.tile.TileList.{TileList}
+use Rattle.wt_bijection.specs.Carried.{IsRenaming}
+use Rattle.wt_grid.specs.Grid.{Grid}
+use Rattle.wt_grid.specs.Widths.{total}
+use Rattle.wt_step.specs.declared.raw.RawLink.{RawLink}
+use Rattle.wt_chain.specs.Sets.{AreLinked, last_set, first_count}
+use Rattle.wt_chain.specs.Growth.{image_of, origin}
+use Rattle.wt_chain.specs.Turns.{turned_times, single}
+
+-- the power of the loop's map, on one tile
+abbrev pub power : List RawLink → List ℕ → ℕ → ℕ → Grid
+power loop renaming turns tile = turned_times loop renaming turns (single tile)
+
+-- 1 for this tile, and 0 for any other
+abbrev pub unit : ℕ → ℕ → ℕ
+unit u t = if nat_eq t u then 1 else 0
+
+-- how often a tile stands in a list
+abbrev pub units : ℕ → List ℕ → ℕ
+units u ts = total (unit u) ts
+
+-- how often it stands in a rectangle
+abbrev pub count : ℕ → Grid → ℕ
+count u g = units u g.cells
+
+-- a tile stands 2^128 times or more in the rectangle
+abbrev pub HasLarge : Grid → Type 0
+HasLarge g = (u : ℕ) × (2 ^ 128 ≤ count u g)
+
+-- the numbers are the counts of 256 tiles
+abbrev pub AreCounts : List ℕ → Grid → Type 0
+AreCounts ns g = (u : ℕ) → u < 256 → slice_index ns u ≡ count u g
+
+-- f 0, f 1 and so on, n of them, added up
+abbrev pub sum_below : ℕ → (ℕ → ℕ) → ℕ
+sum_below zero f = 0
+sum_below (suc n) f = sum_below n f + f n
+
+-- the tiles that a coarse tile of a step stands for
+abbrev pub tiles_under : RawLink → ℕ → List ℕ
+tiles_under link t = piece_tiles (image_of link t)
+
+-- the tile that one of the loop's first set is renamed back to
+abbrev pub tile_back : List ℕ → ℕ → List ℕ
+tile_back renaming t = origin renaming t ∷ []
+
+-- how often tile u stands in what the first n tiles stand for, where each tile stands as often as the numbers say
+unfoldable pub pushed : (ℕ → List ℕ) → List ℕ → ℕ → ℕ → ℕ
+pushed tiles ns n u = sum_below n (λ x. slice_index ns x * units u (tiles x))
+
+-- n has been added to the count of each tile of a list, as often as it stands there
+abbrev pub AreAdded : List ℕ → List ℕ → ℕ → List ℕ → Type 0
+AreAdded old new n tiles = (u : ℕ) → u < 256 → slice_index new u ≡ slice_index old u + n * units u tiles
+
+-- some count would be 2^128 or more then
+abbrev pub IsAddedTooLarge : List ℕ → ℕ → List ℕ → Type 0
+IsAddedTooLarge old n tiles = (u : ℕ) × (u < 256) × (2 ^ 128 ≤ slice_index old u + n * units u tiles)
+
+-- the numbers are those that are pushed
+abbrev pub ArePushed : (ℕ → List ℕ) → List ℕ → List ℕ → Type 0
+ArePushed tiles ns next = (u : ℕ) → u < 256 → slice_index next u ≡ pushed tiles ns 256 u
+
+-- some number that is pushed is 2^128 or more
+abbrev pub IsPushedTooLarge : (ℕ → List ℕ) → List ℕ → Type 0
+IsPushedTooLarge tiles ns = (u : ℕ) × (u < 256) × (2 ^ 128 ≤ pushed tiles ns 256 u)
+
+-- the counts of a rectangle, or none where one is 2^128 or more
+abbrev pub AreCountsOrLarge : Option (List ℕ) → Grid → Type 0
+AreCountsOrLarge counts g = MatchOption counts (HasLarge g) (λ ns. AreCounts ns g)
+
+-- a loop: good steps from its first set on, and a renaming from the last set to the first
+pub record IsClosed (loop : List RawLink) (renaming : List ℕ) : Type 0 where
+  pub set : TileList
+  pub few : length set.tiles ≤ 256
+  pub counted : length set.tiles ≡ first_count loop
+  pub linked : AreLinked set loop
+  pub renames : IsRenaming (last_set set loop).tiles set.tiles renaming

@@ -1,0 +1,199 @@
+// How often each tile stands in what turns of a loop make of a tile.
+ghost use Rattle.std.specs.Prelude.{◌≡◌, ℕ, ◌+◌, ◌*◌, ◌^◌, ◌<◌, ◌≤◌, length, slice_index, MatchBool, MatchOption, MatchResult, IfOk};
+ghost use Rattle.wt_grid.specs.Traces.{piece_tiles};
+ghost use Rattle.wt_tile.specs.declared.tile.TileList.{TileList};
+ghost use Rattle.wt_grid.specs.Grid.{Grid};
+ghost use Rattle.wt_pattern.specs.Patterns.{IsPattern};
+ghost use Rattle.wt_chain.specs.Sets as sets;
+ghost use Rattle.wt_chain.specs.Sets.{AreLinked, last_set};
+ghost use Rattle.wt_chain.specs.Turns.{image_through, turned, single};
+ghost use Rattle.wt_check.specs.Powers.{unit, AreAdded, IsAddedTooLarge, ArePushed, IsPushedTooLarge, tiles_under, tile_back, AreCounts, AreCountsOrLarge, IsClosed};
+ghost use Rattle.wt_check.specs.Census.{IsTooLarge, AreCountsAfter, IsWholeCensus, HasLoopFault, IsCensus, HasNoFault, HasFault};
+
+use std::alloc::Global;
+use wt_chain::{Accepted, End, first_count, image_of, origins, steps_from};
+use wt_morphism::Image;
+use wt_step::RawLink;
+
+/// Adds n to the count of a tile, or tells that it would be 2^128 or more.
+fn add(counts: &mut [u128; 256], tile: u16, n: u128) -> bool
+    ensures { MatchBool result
+        ((u : ℕ) → u < 256 → slice_index counts.new u ≡ slice_index counts.old u + n * unit u tile)
+        ((tile < 256) × (2 ^ 128 ≤ slice_index counts.old tile + n)) }
+{
+    let at = usize::from(tile);
+    if at >= 256 {
+        return true;
+    }
+    let Some(sum) = counts[at].checked_add(n) else {
+        return false;
+    };
+    counts[at] = sum;
+    true
+}
+
+/// Adds n to the count of each tile of an image.
+fn spread(counts: &mut [u128; 256], image: Image, n: u128) -> bool
+    ensures { MatchBool result
+        (AreAdded counts.old counts.new n (piece_tiles image))
+        (IsAddedTooLarge counts.old n (piece_tiles image)) }
+{
+    match image {
+        Image::One(a) => add(counts, a, n),
+        Image::Two(a, b) => add(counts, a, n) && add(counts, b, n),
+    }
+}
+
+/// How often each tile stands in the image under a step, where each coarse tile stands as often as the counts
+/// say.
+fn push(link: &RawLink, counts: &[u128; 256]) -> Option<[u128; 256]>
+    ensures { MatchOption result
+        (IsPushedTooLarge (tiles_under link.now) counts.now)
+        (λ next. ArePushed (tiles_under link.now) counts.now next) }
+{
+    let mut next = [0u128; 256];
+    for t in 0..256u16 {
+        if !spread(&mut next, image_of(link, t), counts[usize::from(t)]) {
+            return None;
+        }
+    }
+    Some(next)
+}
+
+/// How often each tile of a loop's last set stands there, once tiles are renamed back.
+fn back(renaming: &[u16], counts: &[u128; 256]) -> Option<[u128; 256]>
+    requires { length renaming.now ≤ 256 }
+    ensures { MatchOption result
+        (IsPushedTooLarge (tile_back renaming.now) counts.now)
+        (λ next. ArePushed (tile_back renaming.now) counts.now next) }
+{
+    let origins = origins(renaming);
+    let mut next = [0u128; 256];
+    for t in 0..256usize {
+        if !add(&mut next, origins[t], counts[t]) {
+            return None;
+        }
+    }
+    Some(next)
+}
+
+/// The same through several steps, the last step first.
+fn push_through(links: &[RawLink], counts: &[u128; 256]) -> Option<[u128; 256]>
+    ensures { (set : TileList) (q : Grid) → AreLinked set links.now → IsPattern (last_set set links.now).tiles q → AreCounts counts.now q
+        → AreCountsOrLarge result (image_through links.now q) }
+{
+    let [link, after @ ..] = links else {
+        return Some(*counts);
+    };
+    match push_through(after, counts) {
+        None => None,
+        Some(coarse) => push(link, &coarse),
+    }
+}
+
+/// How often each tile stands in what one turn of a loop makes of a rectangle.
+fn turn_counts(links: &[RawLink], renaming: &[u16], counts: &[u128; 256]) -> Option<[u128; 256]>
+    requires { length renaming.now ≤ 256 }
+    ensures { (closed : IsClosed links.now renaming.now) (g : Grid) → IsPattern closed.set.tiles g → AreCounts counts.now g
+        → AreCountsOrLarge result (turned links.now renaming.now g) }
+{
+    match back(renaming, counts) {
+        None => None,
+        Some(named) => push_through(links, &named),
+    }
+}
+
+/// The counts of one tile alone.
+fn one_tile(tile: u16) -> [u128; 256]
+    requires { tile < 256 }
+    ensures { AreCounts result (single tile) }
+{
+    let mut counts = [0u128; 256];
+    counts[usize::from(tile)] = 1;
+    counts
+}
+
+/// Each count is below 2^128, as its type says.
+fn fits(counts: &[u128])
+    ensures { (u : ℕ) → slice_index counts.now u < 2 ^ 128 }
+{}
+
+/// How often each tile stands in what so many turns make of a tile, unless one stands 2^128 times or more
+/// there or in what fewer turns make.
+fn counts_after(links: &[RawLink], renaming: &[u16], turns: u32, tile: u16) -> Option<[u128; 256]>
+    requires closed { IsClosed links.now renaming.now }
+    requires below { tile < sets.first_count links.now }
+    ensures { MatchOption result (IsTooLarge links.now renaming.now turns tile)
+        (λ counts. AreCountsAfter links.now renaming.now turns tile counts) }
+{
+    let mut counts = one_tile(tile);
+    for turn in 0..turns {
+        match turn_counts(links, renaming, &counts) {
+            None => return None,
+            Some(next) => counts = next,
+        }
+    }
+    fits(&counts);
+    Some(counts)
+}
+
+/// The census of a tile under so many turns of a loop.
+fn loop_census(
+    alloc: Global,
+    links: &[RawLink],
+    renaming: &[u16],
+    turns: u32,
+    tile: u16,
+) -> Result<Vec<u128>, CensusFault>
+    requires closed { IsClosed links.now renaming.now }
+    ensures { MatchResult result
+        (λ counts. IsWholeCensus links.now renaming.now turns tile counts.items)
+        (λ e. HasLoopFault links.now renaming.now turns tile e) }
+{
+    let count = first_count(links);
+    if usize::from(tile) >= count {
+        return Err(CensusFault::NoTile);
+    }
+    match counts_after(links, renaming, turns, tile) {
+        None => Err(CensusFault::TooLarge),
+        Some(counts) => match Vec::from_slice(alloc, &counts[..count]) {
+            Ok(counts) => Ok(counts),
+            Err(_) => Err(CensusFault::OutOfMemory),
+        },
+    }
+}
+
+/// Why there is no census.
+#[derive(Clone, Copy, Debug, PartialEq, Eq)]
+pub enum CensusFault {
+    /// The chain isn't closed to a loop.
+    OpenChain,
+    /// The loop's first set has no tile of this number.
+    NoTile,
+    /// A count of some turn from 0 on is 2^128 or more.
+    TooLarge,
+    /// No memory was left.
+    OutOfMemory,
+}
+
+/// How often each tile of the set of level `start`, the loop's first set, stands in what so many turns of a
+/// chain's loop make of one of them: a number for each tile, in their order. The chain has to be looped, then
+/// the tile one of that set, and then each count of each turn from 0 on below 2^128; the first of these that
+/// fails is told. Else only memory can want.
+pub fn census(alloc: Global, c: &Accepted, turns: u32, tile: u16) -> Result<Vec<u128>, CensusFault>
+    requires { turns ≤ 4096 }
+    ensures counts { IfOk result (λ counts. IsCensus c.now.steps c.now.end turns tile counts.items) }
+    ensures fault { MatchResult result (λ counts. HasNoFault c.now.steps c.now.end turns tile) (λ e. HasFault c.now.steps c.now.end turns tile e) }
+{
+    let chain = c.raw();
+    let End::Loop {
+        start,
+        renaming,
+        expansion: _,
+    } = &chain.end
+    else {
+        return Err(CensusFault::OpenChain);
+    };
+    let links = steps_from(chain.steps.as_slice(), *start);
+    loop_census(alloc, links, renaming.as_slice(), turns, tile)
+}
