@@ -1,5 +1,7 @@
 -- What a chain without a fault has, and what has no fault.
 use Rattle.std.proofs.Common.{arith, ◌≡◌, ◌<◌, ◌≤◌, ◌-◌, ◌+◌, ℕ, zero, suc, List, [], ◌∷◌, ◌++◌, length, get_or, slice_get, Option, None, Some, option_map, Bool, true, false, ◌&&◌, nat_lt, if◌then◌else◌, refl, sym, ◌∙◌, ap}
+use Rattle.wt_grid.proofs.Unless.{holds}
+use Rattle.wt_grid.specs.Unless.{unless}
 use Rattle.std.specs.List.{list_all}
 use Rattle.std.proofs.lemmas.Bool.Decides.{nat_tests}
 use Rattle.wt_tile.specs.declared.tile.TileList.{TileList}
@@ -14,12 +16,8 @@ use Rattle.wt_chain.specs.declared.raw.Version.{Version as Versions}
 use Rattle.wt_chain.specs.declared.raw.Version.TheVariants.{One, Two}
 use Rattle.wt_chain.specs.Versions.{version_fits, version_of, one_more, is_first_version}
 use Rattle.wt_chain.specs.Sets.{last_set, set_behind, AreLinked, IsRun}
-use Rattle.wt_chain.specs.Faults.{unless, size_fault, step_fault_at, steps_fault_from, steps_fault, end_fault, chain_fault}
+use Rattle.wt_chain.specs.Faults.{size_fault, step_fault_at, steps_fault_from, steps_fault, end_fault, chain_fault}
 use Rattle.wt_chain.proofs.Run.{run_from}
-
-pub holds : (b : Bool) (fault : Refusal) → unless b fault ≡ None → b ≡ true
-holds true fault e = refl
-holds false fault e = absurd cc
 
 pub record Parts (c : RawChain) : Type 0 where
   pub some : 0 < length c.steps

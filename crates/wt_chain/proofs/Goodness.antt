@@ -1,5 +1,7 @@
 -- A chain without a fault is good, and a good chain has no fault.
 use Rattle.std.proofs.Common.{arith, ◌≡◌, ◌<◌, ◌≤◌, ◌+◌, ℕ, zero, suc, List, [], ◌∷◌, length, drop, Option, None, Some, option_map, Bool, true, false, ◌&&◌, nat_le, if◌then◌else◌, refl, sym, ◌∙◌, ap}
+use Rattle.wt_grid.proofs.Unless.{holds}
+use Rattle.wt_grid.specs.Unless.{unless}
 use Rattle.std.proofs.lemmas.Bool.{and_parts}
 use Rattle.wt_grid.specs.declared.axis.Axis.TheVariants.{One, Two}
 use Rattle.std.proofs.lemmas.Bool.Decides.{nat_tests}
@@ -18,8 +20,9 @@ use Rattle.wt_chain.specs.declared.raw.Refusal.{Refusal}
 use Rattle.wt_chain.specs.declared.raw.Refusal.TheVariants.{Renaming, Expansion}
 use Rattle.wt_chain.specs.Sets.{last_set, AreLinked, IsRun}
 use Rattle.wt_chain.specs.Growth.{turn_stages, has_grown}
-use Rattle.wt_chain.specs.Faults.{unless, steps_fault_from, steps_fault, growth_fault_at, growth_fault, loop_fault, end_fault, chain_fault}
-use Rattle.wt_chain.specs.Good.{HasGrown, IsGoodLoop, IsGoodEnd, IsGoodChain}
+use Rattle.wt_chain.specs.Faults.{steps_fault_from, steps_fault, growth_fault_at, growth_fault, loop_fault, end_fault, chain_fault}
+use Rattle.wt_step.proofs.GoodLinks.{good_link, no_link_fault}
+use Rattle.wt_chain.specs.Good.{HasGrown, AreGoodSteps, IsGoodRun, IsGoodLoop, IsGoodEnd, IsGoodChain}
 use Rattle.wt_chain.proofs.Run.{run_from, equal_same_set}
 use Rattle.wt_chain.proofs.Turned.{wide, high}
 use Rattle.wt_chain.proofs.Good.{Parts, parts, no_fault, holds}
@@ -69,6 +72,23 @@ good_end links (Loop start rs n) h = good_loop (drop start links) rs n h
 
 -- Steps.
 
+good_steps : (set : TileList) (links : List RawLink) → AreLinked set links → AreGoodSteps set links
+good_steps set [] h = tt
+good_steps set (link ∷ links) h = (good_link link h.0, h.1, good_steps (coarse_of link) links h.2)
+
+linked_steps : (set : TileList) (links : List RawLink) → AreGoodSteps set links → AreLinked set links
+linked_steps set [] h = tt
+linked_steps set (link ∷ links) h = (no_link_fault link h.0, h.1, linked_steps (coarse_of link) links h.2)
+
+good_run : (links : List RawLink) → IsRun links → IsGoodRun links
+good_run [] h = tt
+good_run (link ∷ links) h = good_steps (fine_of link) (link ∷ links) h
+
+-- good steps have no fault
+pub linked_run : (links : List RawLink) → IsGoodRun links → IsRun links
+linked_run [] h = tt
+linked_run (link ∷ links) h = linked_steps (fine_of link) (link ∷ links) h
+
 linked_none : (k : ℕ) (set : TileList) (links : List RawLink) → AreLinked set links → steps_fault_from k (Some set) links ≡ None
 linked_none k set [] h = refl
 linked_none k set (link ∷ links) h =
@@ -82,7 +102,7 @@ run_none (link ∷ links) h = rw h.0 (linked_none 1 (coarse_of link) links h.2)
 
 pub good : (c : RawChain) → chain_fault c ≡ None → IsGoodChain c
 good c e = let p = parts c e in
-    record { some = p.some; few = p.few; version = p.version; run = run_from c.steps p.steps; end = end_good c.steps c.end p.end }
+    record { some = p.some; few = p.few; version = p.version; run = good_run c.steps (run_from c.steps p.steps); end = end_good c.steps c.end p.end }
 
 pub back : (c : RawChain) → IsGoodChain c → chain_fault c ≡ None
-back c g = no_fault c (record { some = g.some; few = g.few; version = g.version; steps = run_none c.steps g.run; end = good_end c.steps c.end g.end })
+back c g = no_fault c (record { some = g.some; few = g.few; version = g.version; steps = run_none c.steps (linked_run c.steps g.run); end = good_end c.steps c.end g.end })

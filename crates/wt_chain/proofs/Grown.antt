@@ -1,5 +1,6 @@
 -- The tables tell how large images grow.
-use Rattle.std.proofs.Common.{arith, ◌≡◌, ◌<◌, ◌≤◌, ◌+◌, ℕ, zero, suc, List, [], ◌∷◌, length, map, replicate, get_or, slice_index_or, Bool, true, false, ◌&&◌, ◌||◌, nat_eq, nat_lt, nat_le, if◌then◌else◌, Option, None, Some, option_map, refl, sym, ◌∙◌, ap}
+use Rattle.std.proofs.Common.{arith, ◌≡◌, ◌<◌, ◌≤◌, ◌+◌, ℕ, zero, suc, List, [], ◌∷◌, length, map, replicate, get_or, slice_index_or, Bool, true, false, ◌&&◌, ◌||◌, nat_eq, nat_lt, nat_le, if◌then◌else◌, Option, None, Some, option_map, refl, sym, ◌∙◌, ap, subst}
+use Rattle.wt_grid.specs.Unless.{unless}
 use Rattle.std.proofs.lemmas.Bool.{and_parts}
 use Rattle.std.specs.List.{list_all}
 use Rattle.wt_grid.specs.Traces.{piece_tiles}
@@ -24,10 +25,12 @@ use Rattle.wt_step.specs.declared.raw.RawLink.{RawLink}
 use Rattle.wt_step.specs.declared.raw.RawLink.TheVariants.{Marker, Restrict}
 use Rattle.wt_step.specs.declared.raw.StepFault.TheVariants.{Radius, Fine, Coarse, Kept}
 use Rattle.wt_step.specs.Words.{image_fits}
-use Rattle.wt_step.specs.Faults.{unless, step_fault}
+use Rattle.wt_step.specs.Faults.{step_fault}
 use Rattle.wt_step.specs.Restrict.{kept_fit, sorting_fault, use_fault, restrict_fault}
 use Rattle.wt_step.specs.Links.{link_fault, fine_of, coarse_of}
 use Rattle.wt_step.proofs.Goodness.{good_step}
+use Rattle.wt_step.proofs.Restricted.{good_restrict}
+use Rattle.wt_tile.proofs.TileSets.{no_fault as set_none}
 use Rattle.wt_chain.specs.Sets.{AreLinked, last_set, first_count, IsClosedBy}
 use Rattle.wt_chain.specs.Growth.{image_of, is_along, stage, stages, origin_from, origin, renaming_stage, turn, turn_stages}
 use Rattle.wt_bijection.specs.Renaming.{renaming_fault}
@@ -59,27 +62,13 @@ fits_first n (Double a b) e = let g = and_parts (nat_lt a n) (nat_lt b n) e in g
 
 marker_first : (s : RawStep) → step_fault s ≡ None → (t : ℕ) → t < length s.coarse.tiles → first_tile (slice_index_or s.images t (Single 0)) < length s.fine.tiles
 marker_first s e t lt =
-    let b = and_parts (nat_eq (length s.images) (length s.coarse.tiles)) (list_all (image_fits (length s.fine.tiles)) s.images) (good_step s e).shaped.images in
+    let b = and_parts (nat_eq (length s.images) (length s.coarse.tiles)) (list_all (image_fits (length s.fine.tiles)) s.images) (good_step s e).image_list in
     let n : length s.images ≡ length s.coarse.tiles = grind (arith, nat_tests, b.0) in
     fits_first (length s.fine.tiles) (slice_index_or s.images t (Single 0)) (all_at (image_fits (length s.fine.tiles)) s.images t (Single 0) b.1 (omega arith))
 
-holds_kept : (b : Bool) → unless b Kept ≡ None → b ≡ true
-holds_kept true e = refl
-holds_kept false e = absurd cc
-
-restrict_sorts : (s : RawRestrict) → restrict_fault s ≡ None → (set_fault s.fine ≡ None) × (set_fault s.coarse ≡ None) × (kept_fit s ≡ true)
-unfolding restrict_fault sorting_fault
-restrict_sorts s e =
-    let all = neither (sorting_fault s) (use_fault s) e in
-    let r = neither (unless (nat_le s.radius 4) Radius) _ all.0 in
-    let f = neither (option_map Fine (set_fault s.fine)) _ r.1 in
-    let c = neither (option_map Coarse (set_fault s.coarse)) _ f.1 in
-    let k = neither (unless (kept_fit s) Kept) _ c.1 in
-    (none_under Fine (set_fault s.fine) f.0, none_under Coarse (set_fault s.coarse) c.0, holds_kept (kept_fit s) k.0)
-
 restrict_first : (s : RawRestrict) → restrict_fault s ≡ None → (t : ℕ) → t < length s.coarse.tiles → get_or s.kept t 0 < length s.fine.tiles
 restrict_first s e t lt =
-    let b = and_parts (in_order (is_below (length s.fine.tiles)) comes_before s.kept) (nat_eq (length s.kept) (length s.coarse.tiles)) (restrict_sorts s e).2 in
+    let b = and_parts (in_order (is_below (length s.fine.tiles)) comes_before s.kept) (nat_eq (length s.kept) (length s.coarse.tiles)) (good_restrict s e).kept_list in
     let n : length s.kept ≡ length s.coarse.tiles = grind (arith, nat_tests, b.1) in
     ordered_at (length s.fine.tiles) s.kept t b.0 (omega arith)
 
@@ -89,12 +78,25 @@ unfolding link_fault
 first_fits (Marker s) e t lt = marker_first s e t lt
 first_fits (Restrict s) e t lt = restrict_first s e t lt
 
+fits_second : (n a b : ℕ) → image_fits n (Double a b) ≡ true → b < n
+fits_second n a b e = let h = (and_parts (nat_lt a n) (nat_lt b n) e).1 in grind (arith, nat_tests, h)
+
+-- the second tile of an image is a fine tile, as the first is
+pub second_fits : (link : RawLink) → link_fault link ≡ None → (t a b : ℕ) → t < length (coarse_of link).tiles → image_of link t ≡ Double a b → b < length (fine_of link).tiles
+unfolding link_fault
+second_fits (Marker s) e t a b lt i =
+    let h = and_parts (nat_eq (length s.images) (length s.coarse.tiles)) (list_all (image_fits (length s.fine.tiles)) s.images) (good_step s e).image_list in
+    let n : length s.images ≡ length s.coarse.tiles = grind (arith, nat_tests, h.0) in
+    let f = all_at (image_fits (length s.fine.tiles)) s.images t (Single 0) h.1 (omega arith) in
+    fits_second (length s.fine.tiles) a b (subst (λ (x : Image). image_fits (length s.fine.tiles) x ≡ true) i f)
+second_fits (Restrict s) e t a b lt i = absurd cc
+
 pub coarse_good : (link : RawLink) → link_fault link ≡ None → set_fault (coarse_of link) ≡ None
 unfolding link_fault
-coarse_good (Marker s) e = (good_step s e).shaped.coarse
-coarse_good (Restrict s) e = (restrict_sorts s e).1
+coarse_good (Marker s) e = set_none s.coarse (good_step s e).coarse
+coarse_good (Restrict s) e = set_none s.coarse (good_restrict s e).coarse
 
-few_coarse : (link : RawLink) → link_fault link ≡ None → length (coarse_of link).tiles ≤ 256
+pub few_coarse : (link : RawLink) → link_fault link ≡ None → length (coarse_of link).tiles ≤ 256
 few_coarse link e = (few_tiles (coarse_of link) (coarse_good link e)).1
 
 -- One step.
@@ -154,8 +156,8 @@ no_turn t lt = get_or-replicate 256 t false false lt
 
 pub fine_good : (link : RawLink) → link_fault link ≡ None → set_fault (fine_of link) ≡ None
 unfolding link_fault
-fine_good (Marker s) e = (good_step s e).shaped.fine
-fine_good (Restrict s) e = (restrict_sorts s e).0
+fine_good (Marker s) e = set_none s.fine (good_step s e).fine
+fine_good (Restrict s) e = set_none s.fine (good_restrict s e).fine
 
 -- after so many turns, for a loop of good steps whose renaming has no fault
 pub turns_are_table : (axis : Axis) (link : RawLink) (links : List RawLink) (renaming : List ℕ) (n : ℕ) → AreLinked (fine_of link) (link ∷ links)

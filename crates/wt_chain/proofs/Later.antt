@@ -1,6 +1,8 @@
 -- Images that ever grow have grown after as many turns as there are tiles.
 use Rattle.std.proofs.Common.{arith, ◌≡◌, ◌≢◌, ◌<◌, ◌≤◌, ◌+◌, ◌-◌, ℕ, zero, suc, List, [], ◌∷◌, length, Option, None, Some, is_none, Bool, true, false, ◌&&◌, ◌||◌, nat_le, min, if◌then◌else◌, refl, sym, ◌∙◌, ap, inl, inr}
 use Rattle.wt_chain.proofs.Good.{holds}
+use Rattle.wt_grid.proofs.Unless.{holds}
+use Rattle.wt_grid.specs.Unless.{unless}
 use Rattle.std.specs.Cmp.{both_ways}
 use Rattle.wt_grid.specs.Traces.{piece_tiles}
 use Rattle.wt_grid.specs.Images.{first_tile}
@@ -23,7 +25,7 @@ use Rattle.wt_chain.specs.declared.raw.Refusal.{Refusal}
 use Rattle.wt_chain.specs.declared.raw.Refusal.TheVariants.{Expansion}
 use Rattle.wt_chain.specs.Sets.{AreLinked, last_set, first_count, IsClosedBy}
 use Rattle.wt_chain.specs.Growth.{image_of, is_along, stage, stages, origin, renaming_stage, turn, turn_stages, has_grown}
-use Rattle.wt_chain.specs.Faults.{unless, growth_fault_at, growth_fault, enough, least_expansion}
+use Rattle.wt_chain.specs.Faults.{growth_fault_at, growth_fault, enough, least_expansion}
 use Rattle.wt_chain.proofs.Grown.{first_fits, fine_good, step_some, origin_below, first_same}
 use Rattle.wt_chain.proofs.Paths.{ever}
 

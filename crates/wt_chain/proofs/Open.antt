@@ -1,5 +1,6 @@
 -- Chains that are put together stay good.
 use Rattle.std.proofs.Common.{arith, ◌≡◌, ◌<◌, ◌≤◌, ◌+◌, ℕ, List, [], ◌∷◌, ◌++◌, length, length-append, Option, None, Some, option_map, Bool, true, false, ◌&&◌, nat_lt, if◌then◌else◌, refl, sym, ◌∙◌, ap}
+use Rattle.wt_grid.specs.Unless.{unless}
 use Rattle.std.specs.List.{list_all}
 use Rattle.std.proofs.lemmas.Bool.Decides.{nat_tests}
 use Rattle.wt_tile.specs.declared.tile.TileList.{TileList}
@@ -15,7 +16,7 @@ use Rattle.wt_chain.specs.declared.raw.Version.TheVariants.{One, Two}
 use Rattle.wt_chain.specs.declared.push.PushFault.TheVariants.{NotNext as Apart, TooMany}
 use Rattle.wt_chain.specs.Versions.{version_fits, version_of, one_more, is_first_version}
 use Rattle.wt_chain.specs.Sets.{same_set, follows, comes_next, last_set, set_behind}
-use Rattle.wt_chain.specs.Faults.{unless, step_fault_at, steps_fault_from, steps_fault, end_fault, chain_fault}
+use Rattle.wt_chain.specs.Faults.{step_fault_at, steps_fault_from, steps_fault, end_fault, chain_fault}
 use Rattle.wt_chain.specs.Chains.{IsOpen, push_fault}
 use Rattle.wt_chain.proofs.Good.{Parts, parts, no_fault}
 

@@ -1,6 +1,8 @@
 -- Steps without a fault are good, and each takes apart the set before it.
 use Rattle.std.proofs.Common.{arith, ◌≡◌, ◌≤◌, ◌+◌, ℕ, zero, suc, List, [], ◌∷◌, drop, length, Bool, true, false, ◌&&◌, nat_eq, Option, None, Some, option_map, Decides, refl, sym, ◌∙◌, ap}
 use Rattle.wt_chain.proofs.Good.{holds}
+use Rattle.wt_grid.proofs.Unless.{holds}
+use Rattle.wt_grid.specs.Unless.{unless}
 use Rattle.std.proofs.lemmas.Bool.{and_parts}
 use Rattle.std.proofs.lemmas.Bool.Decides.{nat_tests}
 use Rattle.std.proofs.lemmas.Slice.Eq.{slice_eq-Decides, bytes_eq-Decides}
@@ -20,7 +22,7 @@ use Rattle.wt_step.specs.Links.{link_fault, fine_of, coarse_of}
 use Rattle.wt_chain.specs.declared.raw.Refusal.{Refusal}
 use Rattle.wt_chain.specs.declared.raw.Refusal.TheVariants.{Step, NotNext}
 use Rattle.wt_chain.specs.Sets.{same_set, comes_next, last_set, AreLinked, IsRun, IsRenamed, IsClosedBy}
-use Rattle.wt_chain.specs.Faults.{unless, step_fault_at, steps_fault_from, steps_fault}
+use Rattle.wt_chain.specs.Faults.{step_fault_at, steps_fault_from, steps_fault}
 use Rattle.wt_chain.proofs.Grown.{coarse_good}
 
 -- Sets that are the same are equal.

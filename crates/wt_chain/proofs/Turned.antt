@@ -28,16 +28,16 @@ use Rattle.wt_chain.specs.Turns.{axis_of, image_under, image_through, renamed_ba
 
 -- Pieces and images.
 
-piece_of : {A : Type 0} (f : A → Image) (xs : List A) (d : A) (t : ℕ) → get_or (map f xs) t (f d) ≡ f (get_or xs t d)
+pub piece_of : {A : Type 0} (f : A → Image) (xs : List A) (d : A) (t : ℕ) → get_or (map f xs) t (f d) ≡ f (get_or xs t d)
 piece_of f [] d t = refl
 piece_of f (x ∷ xs) d zero = refl
 piece_of f (x ∷ xs) d (suc t) = piece_of f xs d t
 
-piece_is : (link : RawLink) (t : ℕ) → piece_at (pieces_of link) t ≡ piece (image_of link t)
+pub piece_is : (link : RawLink) (t : ℕ) → piece_at (pieces_of link) t ≡ piece (image_of link t)
 piece_is (Marker s) t = piece_of piece s.images (Single 0) t
 piece_is (Restrict s) t = piece_of Single s.kept 0 t
 
-tiles_are : (image : Image) → piece_tiles (piece image) ≡ piece_tiles image
+pub tiles_are : (image : Image) → piece_tiles (piece image) ≡ piece_tiles image
 tiles_are (Single a) = refl
 tiles_are (Double a b) = refl
 
@@ -139,7 +139,7 @@ map_same : (f h : ℕ → ℕ) (xs : List ℕ) → ((x : ℕ) → f x ≡ h x) �
 map_same f h [] e = refl
 map_same f h (x ∷ xs) e = rw (e x) (ap (λ zs. h x ∷ zs) (map_same f h xs e))
 
-tiles_at : (link : RawLink) (t : ℕ) → piece_tiles (piece_at (pieces_of link) t) ≡ piece_tiles (image_of link t)
+pub tiles_at : (link : RawLink) (t : ℕ) → piece_tiles (piece_at (pieces_of link) t) ≡ piece_tiles (image_of link t)
 tiles_at link t = ap piece_tiles (piece_is link t) ∙ tiles_are (image_of link t)
 
 first_at : (link : RawLink) (t : ℕ) → first_tile (piece_at (pieces_of link) t) ≡ first_tile (image_of link t)

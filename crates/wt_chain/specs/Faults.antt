@@ -1,5 +1,6 @@
 -- The first failing condition of a chain.
 use Rattle.std.specs.Prelude.{ℕ, ◌+◌, List, [], ◌∷◌, length, drop, Option, None, Some, Bool, ◌&&◌, option_map, is_none, nat_lt, if◌then◌else◌}
+use Rattle.wt_grid.specs.Unless.{unless}
 use Rattle.wt_tile.specs.declared.tile.TileList.{TileList}
 use Rattle.wt_grid.specs.First.{or_else, first_from}
 use Rattle.wt_bijection.specs.Renaming.{renaming_fault}
@@ -14,9 +15,6 @@ use Rattle.wt_chain.specs.Versions.{version_fits}
 use Rattle.wt_chain.specs.Sets.{comes_next, last_set}
 use Rattle.wt_chain.specs.Growth.{has_grown}
 use Rattle.wt_chain.specs.Tables.{entry}
-
-abbrev pub unless : Bool → Refusal → Option Refusal
-unless ok fault = if ok then None else Some fault
 
 -- 1 to 32 steps, in a version that has them
 abbrev pub size_fault : RawChain → Option Refusal
@@ -34,9 +32,11 @@ abbrev pub steps_fault_from : ℕ → Option TileList → List RawLink → Optio
 steps_fault_from k before [] = None
 steps_fault_from k before (link ∷ links) = or_else (step_fault_at k before link) (steps_fault_from (k + 1) (Some (coarse_of link)) links)
 
+-- the first fault of the steps of a chain
 abbrev pub steps_fault : List RawLink → Option Refusal
 steps_fault links = steps_fault_from 0 None links
 
+-- the image of tile t isn't two wide and two high after these turns
 abbrev pub growth_fault_at : List RawLink → List ℕ → ℕ → ℕ → Option Refusal
 growth_fault_at loop renaming expansion t = unless (has_grown loop renaming expansion t) (Expansion t)
 
@@ -56,6 +56,7 @@ least_expansion loop renaming n = first_from (enough loop renaming n) 0 n
 abbrev pub small_at : List Bool → List Bool → ℕ → Option Refusal
 small_at wide high t = unless (entry wide t && entry high t) (Expansion t)
 
+-- the first of n tiles that the tables tell to be small
 abbrev pub first_small : List Bool → List Bool → ℕ → Option Refusal
 first_small wide high n = first_from (small_at wide high) 0 n
 
@@ -66,6 +67,7 @@ loop_fault (link ∷ links) renaming expansion =
     or_else (option_map Renaming (renaming_fault (last_set (coarse_of link) links).tiles (fine_of link).tiles renaming))
     (growth_fault (link ∷ links) renaming expansion (length (fine_of link).tiles))
 
+-- an open end has no fault, a loop that of its steps from `start` on
 abbrev pub end_fault : List RawLink → End → Option Refusal
 end_fault links Open = None
 end_fault links (Loop start renaming expansion) = loop_fault (drop start links) renaming expansion

@@ -30,6 +30,7 @@ abbrev pub origin_from : ℕ → List ℕ → ℕ → ℕ
 origin_from i [] t = 0
 origin_from i (r ∷ rs) t = if nat_eq r t then i else origin_from (i + 1) rs t
 
+-- the tile of the last set that is carried onto t; 0 where there is none
 abbrev pub origin : List ℕ → ℕ → ℕ
 origin renaming t = origin_from 0 renaming t
 
@@ -46,11 +47,11 @@ stages axis (link ∷ links) left = stages axis links (stage axis link ∷ left)
 abbrev pub turn : Axis → List RawLink → List ℕ → List Stage → List Stage
 turn axis loop renaming left = renaming_stage renaming ∷ stages axis loop left
 
--- so many turns
+-- n turns
 abbrev pub turn_stages : Axis → List RawLink → List ℕ → ℕ → List Stage
 turn_stages axis loop renaming zero = []
 turn_stages axis loop renaming (suc n) = turn axis loop renaming (turn_stages axis loop renaming n)
 
--- after so many turns the image of tile t is at least two wide and two high
+-- after n turns the image of tile t is at least two wide and two high
 abbrev pub has_grown : List RawLink → List ℕ → ℕ → ℕ → Bool
 has_grown loop renaming n t = nat_le 2 (width (turn_stages One loop renaming n) t) && nat_le 2 (width (turn_stages Two loop renaming n) t)

@@ -26,17 +26,17 @@ abbrev pub last_set : TileList → List RawLink → TileList
 last_set set [] = set
 last_set set (link ∷ links) = last_set (coarse_of link) links
 
--- good steps, each of which takes apart the set before it
+-- steps without a fault, of which the first takes apart this set, and each other one the coarse set of the step before it
 abbrev pub AreLinked : TileList → List RawLink → Type 0
 AreLinked set [] = Unit {0}
 AreLinked set (link ∷ links) = (link_fault link ≡ None) × (fine_of link ≡ set) × AreLinked (coarse_of link) links
 
--- good steps, one behind the other
+-- steps without a fault, each of which takes apart the coarse set of the one before it
 abbrev pub IsRun : List RawLink → Type 0
 IsRun [] = Unit {0}
 IsRun (link ∷ links) = AreLinked (fine_of link) (link ∷ links)
 
--- so many tiles the first set has
+-- how many tiles the first set has; none where there is no step
 abbrev pub first_count : List RawLink → ℕ
 first_count [] = 0
 first_count (link ∷ links) = length (fine_of link).tiles

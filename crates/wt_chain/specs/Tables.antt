@@ -12,6 +12,7 @@ use Rattle.wt_chain.specs.Growth.{image_of, is_along, origin}
 abbrev pub entries_of : {A : Type 0} → (ℕ → A) → List A
 entries_of f = map f (range_with_len 0 256)
 
+-- what the table says of tile t
 abbrev pub entry : List Bool → ℕ → Bool
 entry rows t = slice_index_or rows t false
 
@@ -20,22 +21,28 @@ abbrev pub grows_by : Bool → Image → List Bool → Bool
 grows_by along (Single a) rows = entry rows a
 grows_by along (Double a b) rows = along || entry rows a
 
+-- the same for the image of coarse tile t of a step
 abbrev pub grows : Axis → RawLink → List Bool → ℕ → Bool
 grows axis link rows t = grows_by (is_along axis link) (image_of link t) rows
 
+-- the table of a step's coarse tiles, from that of its fine tiles
 unfoldable pub next_table : Axis → RawLink → List Bool → List Bool
 next_table axis link rows = entries_of (grows axis link rows)
 
+-- the table of the last set, from that of the first
 abbrev pub climb : Axis → List RawLink → List Bool → List Bool
 climb axis [] rows = rows
 climb axis (link ∷ links) rows = climb axis links (next_table axis link rows)
 
+-- what the table of the last set says of the tile that is carried onto t
 abbrev pub origin_entry : List ℕ → List Bool → ℕ → Bool
 origin_entry renaming rows t = entry rows (origin renaming t)
 
+-- the table of the first set, from that of the last
 unfoldable pub renamed_table : List ℕ → List Bool → List Bool
 renamed_table renaming rows = entries_of (origin_entry renaming rows)
 
+-- the table after n turns; before the first turn no tile is two long
 abbrev pub turns_table : Axis → List RawLink → List ℕ → ℕ → List Bool
 turns_table axis loop renaming zero = replicate 256 false
 turns_table axis loop renaming (suc n) = renamed_table renaming (climb axis loop (turns_table axis loop renaming n))

@@ -31,7 +31,7 @@ renamed_back renaming g = grid_of g.width g.height (λ x y. origin renaming (cel
 abbrev pub turned : List RawLink → List ℕ → Grid → Grid
 turned loop renaming g = image_through loop (renamed_back renaming g)
 
--- so many turns
+-- n turns
 abbrev pub turned_times : List RawLink → List ℕ → ℕ → Grid → Grid
 turned_times loop renaming zero g = g
 turned_times loop renaming (suc n) g = turned_times loop renaming n (turned loop renaming g)

@@ -75,7 +75,8 @@ impl Accepted {
         LinkRef::new(&self.raw.steps.as_slice()[k])
     }
 
-    /// The set of a level, at most the number of steps: that which step `level` takes apart, or behind the last step its coarse set.
+    /// The set of a level, at most the number of steps: that which step `level` takes apart, or after the last
+    /// step its coarse set.
     pub fn set(&self, level: usize) -> SetRef<'_>
         requires { level ≤ length self.now.steps }
         ensures { set_at self.now.steps level ≡ Some result.list.now }
@@ -102,6 +103,7 @@ impl Accepted {
         &self.raw
     }
 
+    /// The chain as it was read. Takes no memory.
     pub fn into_raw(self) -> RawChain
         ensures same { result ≡ self }
         ensures good { spec.chain_fault result ≡ None }

@@ -17,7 +17,8 @@ use std::marker::Model;
 use wt_seq::Seq;
 use wt_step::{Link, RawLink};
 
-/// A chain of 1 to 32 good steps, each of which takes apart the set before it. Contracts see the list of its steps.
+/// A chain of 1 to 32 good steps, each of which takes apart the set before it. Contracts see the list of its
+/// steps.
 #[derive(Drop)]
 pub struct Chain {
     steps: Vec<RawLink>,
@@ -86,7 +87,9 @@ impl Chain {
         }
     }
 
-    /// The chain with one step more. `NotNext` comes exactly where the step doesn't take apart the chain's last set, colours and names included; `TooMany` exactly where it does and 32 steps are held; else want of memory. The chain and the step come back.
+    /// The chain with one step more. `NotNext` comes exactly where the step doesn't take apart the chain's last
+    /// set, colours and names included; `TooMany` exactly where it does and 32 steps are held; else want of
+    /// memory. The chain and the step come back.
     pub fn push_step(self, link: Link) -> Result<Chain, (Chain, Link, PushFault)>
         ensures ok { IfOk result
             (λ chain. (chains.push_fault self link ≡ None) × (chain ≡ self ++ link ∷ [])) }
@@ -115,7 +118,9 @@ impl Chain {
         }
     }
 
-    /// The chain closed to a loop from its last set back to the set of level `start`, or the first condition of a loop that fails: `start` is a step, the renaming carries the one set onto the other, and so many turns make images grow. Takes no memory.
+    /// The chain closed to a loop from its last set back to the set of level `start`, or the first condition of
+    /// a loop that fails: `start` is a step, the renaming carries the one set onto the other, and `expansion`
+    /// turns make images grow. Takes no memory.
     pub fn close(
         self,
         start: u16,
@@ -141,7 +146,10 @@ impl Chain {
         }
     }
 
-    /// The least number of turns, at least 1 and at most the number of tiles of level `start`, after which the image of each tile there is at least two wide and two high; where there is none, no greater number serves either. The renaming carries the last set onto that of level `start`. Takes no memory.
+    /// The least number of turns, at least 1 and at most the number of tiles of level `start`, after which the
+    /// image of each tile there is at least two wide and two high; where there is none, no greater number
+    /// serves
+    /// either. The renaming carries the last set onto that of level `start`. Takes no memory.
     pub fn expansion(&self, start: u16, renaming: &[u16]) -> Option<u32>
         requires { IsRenamed (drop start self.now) renaming.now }
         ensures value { result ≡ fault_words.least_expansion (drop start self.now) renaming.now (first_count (drop start self.now)) }

@@ -137,7 +137,12 @@ fn end_fault(links: &[RawLink], end: &End) -> Option<Refusal>
     }
 }
 
-/// The first failing condition of a chain, or none. In this order: 1 to 32 steps; in version one no tree cites, each refutation has its step's radius, and no step restricts; for each step from 0 its own conditions, and that it takes apart the coarse set of the step before it, colours and names included; for a loop that its start is a step, that the renaming carries the last set onto the set there, and that so many turns make the image of each tile there at least two wide and two high. Takes no memory.
+/// The first failing condition of a chain, or none. In this order: 1 to 32 steps; in version one no tree cites,
+/// each refutation has its step's radius, and no step restricts; for each step from 0 its own conditions, and
+/// that it takes apart the coarse set of the step before it, colours and names included; for a loop that its
+/// start is a step, that the renaming carries the last set onto the set there, and that the stated turns make
+/// the
+/// image of each tile there at least two wide and two high. Takes no memory.
 #[tactic(auto, unfolding(crate::specs::Faults::chain_fault))]
 pub fn chain_fault(raw: &RawChain) -> Option<Refusal>
     ensures { result ≡ spec.chain_fault raw.now }

@@ -12,7 +12,8 @@ use wt_morphism::Image;
 use wt_step::RawLink;
 use wt_tile::{Axis, same_axis};
 
-/// What a coarse tile of a step stands for; a number past the coarse tiles counts as one that stands for tile 0.
+/// What a coarse tile of a step stands for; a number past the coarse tiles counts as one that stands for tile
+/// 0.
 pub fn image_of(link: &RawLink, t: u16) -> Image
     ensures { result ≡ growth.image_of link.now t }
 {
@@ -163,7 +164,9 @@ fn first_small(wide: &[bool; 256], high: &[bool; 256], count: u16) -> Option<Ref
     None
 }
 
-/// The first tile of the loop's first set whose image after so many turns isn't at least two wide and two high. The steps are good, each takes apart the set before it, and the renaming has no fault; more than 256 turns tell no more than 256.
+/// The first tile of the loop's first set whose image after these turns isn't at least two wide and two high.
+/// The steps are good, each takes apart the set before it, and the renaming has no fault; more than 256 turns
+/// tell no more than 256.
 pub fn growth_fault(links: &[RawLink], renaming: &[u16], turns: u32, count: u16) -> Option<Refusal>
     requires closed { IsClosedBy links.now renaming.now }
     requires counted { count ≡ first_count links.now }
@@ -229,7 +232,8 @@ fn enough_after(
     }
 }
 
-/// The least number of turns, at most the number of tiles of the loop's first set, that makes the image of each tile there at least two wide and two high.
+/// The least number of turns, at most the number of tiles of the loop's first set, that makes the image of each
+/// tile there at least two wide and two high.
 #[tactic(auto, using(wt_grid::proofs::First::first_more))]
 pub fn least_expansion(links: &[RawLink], renaming: &[u16], count: u16) -> Option<u32>
     requires closed { IsClosedBy links.now renaming.now }

@@ -21,4 +21,4 @@ pub use growth::{image_of, is_along, origin, origins};
 pub use laws::good_chains;
 pub use push::PushFault;
 pub use raw::{End, RawChain, Refusal, Version};
-pub use sets::{coarse_set, fine_set, same_set};
+pub use sets::{coarse_set, fine_set, first_count, same_set};

@@ -1,9 +1,12 @@
-// Why a step can't be put behind a chain.
+// Why a step can't be put after a chain.
 
-/// `NotNext` exactly where the step doesn't take apart the chain's last set; `TooMany` exactly where it does and 32 steps are held; else want of memory.
+/// Why a step can't be put after a chain's last one.
 #[derive(Clone, Copy, Debug, PartialEq, Eq)]
 pub enum PushFault {
+    /// The step doesn't take apart the chain's last set, colours and names included.
     NotNext,
+    /// It does, and 32 steps are held.
     TooMany,
+    /// Out of memory.
     OutOfMemory,
 }

@@ -66,6 +66,16 @@ pub fn follows(before: Option<&TileList>, set: &TileList) -> bool
     }
 }
 
+/// How many tiles the first set of these steps has; none where there is no step.
+pub fn first_count(links: &[RawLink]) -> usize
+    ensures { result ≡ spec.first_count links.now }
+{
+    match links {
+        [] => 0,
+        [first, ..] => fine_set(first).tiles.as_slice().len(),
+    }
+}
+
 /// The set behind these steps; the first one where there is none.
 pub fn last_set<'a>(first: &'a TileList, links: &'a [RawLink]) -> &'a TileList
     ensures { result.now ≡ spec.last_set first.now links.now }

@@ -1,4 +1,5 @@
 pub mod First
+pub mod Unless
 pub mod Order
 pub mod Keys
 pub mod Grids

@@ -1,5 +1,6 @@
 pub mod Axes
 pub mod First
+pub mod Unless
 pub mod Order
 pub mod Pairs
 pub mod Grid

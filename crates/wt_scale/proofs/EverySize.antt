@@ -23,6 +23,7 @@ use Rattle.wt_scale.specs.Pick.{power_for, lower_left, grown, pick}
 use Rattle.wt_scale.proofs.NoPeriods.{doubled, linked_apart, run_linked, split_steps, run_is_linked}
 use Rattle.wt_scale.proofs.Doubling.{through_valid, doubled_sides}
 use Rattle.wt_scale.proofs.Powers.{enough}
+use Rattle.wt_chain.proofs.Goodness.{linked_run}
 
 -- one tile alone is a valid pattern
 pub single_pattern : (ts : List Tile) → 0 < length ts → IsPattern ts (single 0)
@@ -116,7 +117,7 @@ from_start first rest linked start list e loop same good w h some_wide some_high
 pub valid_pick : (c : RawChain) → IsGoodChain c → (start e : ℕ) (list : List ℕ) → c.end ≡ Loop start list e → (first : RawLink) (rest : List RawLink) → c.steps ≡ first ∷ rest
     → (w h : ℕ) → 1 ≤ w → 1 ≤ h → IsPatternOf (fine_of first).tiles w h (pick c.steps start list e w h)
 valid_pick c good start e list end first rest steps w h some_wide some_high =
-    let linked = run_is_linked first rest c.steps steps good.run in
+    let linked = run_is_linked first rest c.steps steps (linked_run c.steps good.run) in
     let loop : IsGoodLoop (drop start (first ∷ rest)) list e = subst (λ (xs : List RawLink). IsGoodLoop (drop start xs) list e) steps (subst (λ (z : _). IsGoodEnd c.steps z) end good.end) in
     subst (λ (xs : List RawLink). IsPatternOf (fine_of first).tiles w h (pick xs start list e w h)) (sym steps)
     (from_start first rest linked start list e (drop start (first ∷ rest)) refl loop w h some_wide some_high)

@@ -9,3 +9,4 @@ pub mod Powers
 pub mod EverySize
 pub mod Digits
 pub mod SizeLaws
+pub mod Holding

@@ -69,7 +69,7 @@ module _ (s : RawRestrict) (e : link_fault (Restrict s) ≡ None) (g : IsGoodRes
 
   kept_count : length (kept_pieces s) ≡ length s.coarse.tiles
   kept_count =
-      let b = (and_parts (in_order (is_below (length s.fine.tiles)) comes_before s.kept) (nat_eq (length s.kept) (length s.coarse.tiles)) g.sorted.kept).1 in
+      let b = (and_parts (in_order (is_below (length s.fine.tiles)) comes_before s.kept) (nat_eq (length s.kept) (length s.coarse.tiles)) g.kept_list).1 in
       let n : length s.kept ≡ length s.coarse.tiles = grind (arith, nat_tests, b) in
       length-map s.kept Single ∙ n
 

@@ -26,6 +26,7 @@ use Rattle.wt_scale.specs.Sizes.{size_from, turns_size, size_of}
 use Rattle.wt_step.specs.Carried.{magnitude}
 use Rattle.wt_step.proofs.SignedPeriods.{are_opposed, to_vector}
 use Rattle.wt_scale.proofs.Standing.{Standing, larger_turns, steps_up, turns_up, anew}
+use Rattle.wt_chain.proofs.Goodness.{linked_run}
 
 -- where each tile grows to two cells at least, a run of cells grows to twice its length
 pub twice : (f : ℕ → ℕ) (n : ℕ) → ((t : ℕ) → t < n → 2 ≤ f t) → (m : ℕ) (a : ℕ → ℕ) → ((k : ℕ) → k < m → a k < n) → m + m ≤ total f (listed m a)
@@ -159,7 +160,7 @@ pub no_period : (c : RawChain) → IsGoodChain c → (start e : ℕ) (list : Lis
     → (x y : ℤ) (m k : ℕ) → magnitude x ≤ m → magnitude y ≤ m → m < 2 ^ k → (1 ≤ magnitude x) ⊎ (1 ≤ magnitude y)
     → (p : Grid) → IsPattern (fine_of first).tiles p → size_of c.steps start e k m ≤ p.width → size_of c.steps start e k m ≤ p.height → IsPeriod p x y → ⊥
 no_period c good start e list end first rest steps x y m k lx ly lm some p v w h period =
-    let linked = run_is_linked first rest c.steps steps good.run in
+    let linked = run_is_linked first rest c.steps steps (linked_run c.steps good.run) in
     let loop : IsGoodLoop (drop start (first ∷ rest)) list e = subst (λ (xs : List RawLink). IsGoodLoop (drop start xs) list e) steps (subst (λ (z : _). IsGoodEnd c.steps z) end good.end) in
     let vec = to_vector One p x y period in
     let opposed = are_opposed x y in

@@ -4,3 +4,4 @@ pub mod Existence
 pub mod Pick
 pub mod Vectors
 pub mod Loops
+pub mod Holds

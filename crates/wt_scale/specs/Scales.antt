@@ -36,3 +36,12 @@ pub record HasCoarsePeriod (l : RawLink) (p : Grid) (side : ℕ) (opposed : Bool
   pub up_half : dy ≤ up + up
   pub right_runs : (s : Stage) (ss : List Stage) (d : ℕ) → IsStageOf (is_along One l) (pieces_of l) s → IsTraced One ss d p dx → IsTraced One (s ∷ ss) d coarse right
   pub up_runs : (s : Stage) (ss : List Stage) (d : ℕ) → IsStageOf (is_along Two l) (pieces_of l) s → IsTraced Two ss d p dy → IsTraced Two (s ∷ ss) d coarse up
+
+-- the rectangle pays for the margin and the cuts of a step, and leaves this side
+abbrev pub HasSideLeft : RawLink → Grid → ℕ → Type 0
+HasSideLeft l p side = (side_below l side ≤ p.width) × (side_below l side ≤ p.height)
+
+-- each period of a rectangle has become one of a coarse pattern of any side that the rectangle pays for, and that is two more than the period is long
+abbrev pub HasCoarsePeriods : RawLink → Grid → Type 0
+HasCoarsePeriods l p = (side : ℕ) (opposed : Bool) (dx dy : ℕ) → HasSideLeft l p side → dx + 2 ≤ side → dy + 2 ≤ side
+    → HasVector One opposed dx dy p → HasCoarsePeriod l p side opposed dx dy

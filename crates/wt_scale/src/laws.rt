@@ -1,4 +1,4 @@
-// What good marker steps do to patterns and their periods.
+// What good steps do to patterns and their periods.
 ghost use Rattle.std.specs.Prelude.{◌≡◌, ◌⊎◌, ◌+◌, ◌^◌, ◌∷◌, ◌<◌, ◌≤◌, None, Ok, ℕ, ℤ, List, Bool};
 ghost use Rattle.wt_grid.specs.declared.axis.Axis.TheVariants.{One};
 ghost use Rattle.wt_grid.specs.Grid.{Grid, lines};
@@ -19,20 +19,18 @@ ghost use Rattle.wt_chain.specs.Faults.{chain_fault};
 ghost use Rattle.wt_chain.specs.Looped.{IsLooped, first_tiles};
 ghost use Rattle.wt_chain.specs.Sets.{AreLinked};
 ghost use Rattle.wt_chain.specs.Turns.{renamed_back, turned_times};
-ghost use Rattle.wt_chain.specs.Good.{IsGoodLoop};
-ghost use Rattle.wt_step.specs.Carried.{magnitude};
-ghost use Rattle.wt_scale.specs.Loops.{loop_size, loop_pick};
+ghost use Rattle.wt_chain.specs.Good.{IsGoodLoop, IsGoodChain};
+ghost use Rattle.wt_scale.specs.Loops.{loop_pick};
+ghost use Rattle.wt_scale.specs.Holds.{HasNoPeriod, HasNoPeriodFrom, HasEverySize, Holds};
 ghost use Rattle.wt_scale.specs.Vectors.{digits, size_result};
-ghost use Rattle.wt_scale.specs.Scales.{HasCoarsePeriod, side_below};
-ghost use Rattle.wt_scale.specs.Existence.{HasValidImage, IsSameSized, IsTwiceSized, IsPatternOf, HasPattern};
+ghost use Rattle.wt_scale.specs.Scales.{HasCoarsePeriods};
+ghost use Rattle.wt_scale.specs.Existence.{HasMarkerImage, HasValidImage, IsSameSized, HasDoubling, IsPatternOf};
 ghost use Rattle.wt_scale.specs.Pick.{power_for};
 
 /// Each valid coarse pattern of a good marker step has an image, and that is valid: the coarse tiles of a
 /// line stand for one or two lines, which match as the step's images say.
 pub fn images_are_valid()
-    ensures { (s : RawStep) → spec.step_fault s ≡ None → (q : Grid) → IsPattern s.coarse.tiles q
-        → IsPattern s.fine.tiles (image_grid s.axis (pieces s) q)
-        × IsImage (pieces s) (lines s.axis q) (lines s.axis (image_grid s.axis (pieces s) q)) }
+    ensures { (s : RawStep) → spec.step_fault s ≡ None → (q : Grid) → IsPattern s.coarse.tiles q → HasMarkerImage s q }
 {}
 
 /// A valid pattern with a period has, by a good step of either kind, a valid coarse pattern with a period:
@@ -40,9 +38,7 @@ pub fn images_are_valid()
 /// no longer than before, at least half as long, and zero exactly where it was; and each run of coarse
 /// cells of the period's length stands for a run of cells of the old length, wherever it begins.
 pub fn patterns_are_lowered()
-    ensures { (l : RawLink) → link_fault l ≡ None → (p : Grid) (side : ℕ) (opposed : Bool) (dx dy : ℕ) → IsPattern (fine_of l).tiles p
-        → side_below l side ≤ p.width → side_below l side ≤ p.height → dx + 2 ≤ side → dy + 2 ≤ side → HasVector One opposed dx dy p
-        → HasCoarsePeriod l p side opposed dx dy }
+    ensures { (l : RawLink) → link_fault l ≡ None → (p : Grid) → IsPattern (fine_of l).tiles p → HasCoarsePeriods l p }
 {}
 
 /// No nonzero vector is a period of a valid pattern over the first set of a good looped chain, if the pattern
@@ -50,9 +46,7 @@ pub fn patterns_are_lowered()
 /// the loop a component that isn't 0 is at least halved, since every tile grows to two cells at least each
 /// way; after k times e turns it would be at least 2^k, which is more than m.
 pub fn large_patterns_have_no_period()
-    ensures { (c : RawChain) → chain_fault c ≡ None → (loop : IsLooped c)
-        → (x y : ℤ) (m k : ℕ) → magnitude x ≤ m → magnitude y ≤ m → m < 2 ^ k → (1 ≤ magnitude x) ⊎ (1 ≤ magnitude y)
-        → (p : Grid) → IsPattern (first_tiles loop) p → loop_size loop k m ≤ p.width → loop_size loop k m ≤ p.height → IsPeriod p x y → ⊥ }
+    ensures { (c : RawChain) → chain_fault c ≡ None → HasNoPeriod c }
 {}
 
 /// Each valid coarse pattern of a good step, of either kind, has an image, and that is valid. It is no smaller
@@ -71,7 +65,7 @@ pub fn renamed_patterns_are_valid()
 /// each of its sides is at least twice as long: e turns make every tile at least two cells wide and high.
 pub fn turns_double_patterns()
     ensures { (l : RawLink) (ls : List RawLink) → AreLinked (fine_of l) (l ∷ ls) → (list : List ℕ) (e : ℕ) → IsGoodLoop (l ∷ ls) list e
-        → (g : Grid) → IsPattern (fine_of l).tiles g → IsTwiceSized (fine_of l).tiles g (turned_times (l ∷ ls) list e g) }
+        → HasDoubling (fine_of l) (l ∷ ls) list e }
 {}
 
 /// The power that is found for a number n is the least k with n ≤ 2^k.
@@ -89,8 +83,14 @@ pub fn picks_are_valid()
 
 /// Valid patterns of every size exist over the first set of a good looped chain: its picks.
 pub fn every_size_has_a_pattern()
-    ensures { (c : RawChain) → chain_fault c ≡ None → (loop : IsLooped c)
-        → (w h : ℕ) → 1 ≤ w → 1 ≤ h → HasPattern (first_tiles loop) w h }
+    ensures { (c : RawChain) → chain_fault c ≡ None → HasEverySize c }
+{}
+
+/// What holds of every good chain: each of its steps takes every valid rectangle apart in exactly one way, up
+/// to a cut at the border; and where it is looped, valid patterns of every size exist over its first set, and
+/// no nonzero vector is a period of a large one.
+pub fn good_chains_hold()
+    ensures { (c : RawChain) → IsGoodChain c → Holds c }
 {}
 
 /// A number is below 2 to the power of its number of binary digits, and below no lower power of 2.
@@ -103,6 +103,5 @@ pub fn digits_are_least()
 /// as high as this size has the vector as a period.
 pub fn sizes_exclude_periods()
     ensures { (c : RawChain) → chain_fault c ≡ None → (first : RawLink) (rest : List RawLink) → c.steps ≡ first ∷ rest
-        → (x y : ℤ) (size : ℕ) → size_result c x y ≡ Ok size
-        → (p : Grid) → IsPattern (fine_of first).tiles p → size ≤ p.width → size ≤ p.height → IsPeriod p x y → ⊥ }
+        → (x y : ℤ) (size : ℕ) → size_result c x y ≡ Ok size → HasNoPeriodFrom (fine_of first).tiles size x y }
 {}

@@ -14,8 +14,8 @@ use Rattle.wt_grid.proofs.Grids.{length_lines}
 use Rattle.wt_step.specs.declared.raw.RawStep.{RawStep}
 use Rattle.wt_step.specs.declared.raw.RawLink.{RawLink}
 use Rattle.wt_step.specs.declared.raw.RawLink.TheVariants.{Marker, Restrict}
-use Rattle.wt_step.specs.declared.borrowed.LinkRef.{LinkRef}
-use Rattle.wt_step.specs.declared.borrowed.LinkRef.TheVariants.{Marker as MarkerRef, Restrict as KeepingRef}
+use Rattle.wt_step.specs.declared.link.LinkRef.{LinkRef}
+use Rattle.wt_step.specs.declared.link.LinkRef.TheVariants.{Marker as MarkerRef, Restrict as KeepingRef}
 use Rattle.wt_step.specs.Links.{link_fault, fine_of}
 use Rattle.wt_step.specs.Views.{link_of}
 use Rattle.wt_step.specs.Coarse.{IsDesubstitution}

@@ -51,7 +51,7 @@ matched_pieces ts axis (Double a b) (Double c d) m = rw (m.0, m.1) refl
 
 module _ (s : RawStep) (g : IsGoodStep s) where
   pub count_images : length s.images ≡ length s.coarse.tiles
-  count_images = let e = (and_parts (nat_eq (length s.images) (length s.coarse.tiles)) (list_all (image_fits (length s.fine.tiles)) s.images) g.shaped.images).0 in grind (arith, nat_tests, e)
+  count_images = let e = (and_parts (nat_eq (length s.images) (length s.coarse.tiles)) (list_all (image_fits (length s.fine.tiles)) s.images) g.image_list).0 in grind (arith, nat_tests, e)
 
   -- coarse tiles match where their images do
   joined_images : (axis : Axis) (i j : ℕ) (x y : Image) → slice_get s.images i ≡ Some x → slice_get s.images j ≡ Some y → images_match s axis x y ≡ true → matches s.coarse.tiles axis i j ≡ true

@@ -102,7 +102,7 @@ module _ (s : RawStep) (g : IsGoodStep s) where
   tiles : (i : ℕ) → i < length (pieces s) → PieceBelow (length s.fine.tiles) (piece_at (pieces s) i)
   tiles i li =
       let n = images_long in
-      let f = (and_parts (nat_eq (length s.images) (length s.coarse.tiles)) (list_all (image_fits (length s.fine.tiles)) s.images) g.shaped.images).1 in
+      let f = (and_parts (nat_eq (length s.images) (length s.coarse.tiles)) (list_all (image_fits (length s.fine.tiles)) s.images) g.image_list).1 in
       subst (λ (x : Image). PieceBelow (length s.fine.tiles) x) (sym (at_piece i)) (fit_below (length s.fine.tiles) (image_at s i) (fit_at (length s.fine.tiles) s.images i f (omega arith)))
 
   pub image_valid : (q : Grid) → IsPattern s.coarse.tiles q

@@ -7,7 +7,6 @@ use Rattle.std.proofs.lemmas.Bool.{cases_lt, and_parts}
 use Rattle.std.proofs.lemmas.Bool.Decides.{nat_tests}
 use Rattle.std.proofs.lemmas.List.{get_or-set_same, get_or-set_other, length-set}
 use Rattle.std.proofs.lemmas.Nat.{div-mul-add, mod-mul-add, mul-add-lt}
-use Rattle.wt_tile.proofs.Sizes.{few_tiles}
 use Rattle.wt_step.specs.declared.raw.RawStep.{RawStep}
 use Rattle.wt_step.specs.Words.{image_fits, image_at}
 use Rattle.wt_step.specs.Good.{IsGoodStep}
@@ -36,15 +35,13 @@ same_place n a b c d lb ld e = (
 
 pub good_sizes : (s : RawStep) → IsGoodStep s → (length s.fine.tiles ≤ 256) × (length s.images ≤ 256) × (length s.images ≡ length s.coarse.tiles)
 good_sizes s g =
-    let e = (and_parts (nat_eq (length s.images) (length s.coarse.tiles)) (list_all (image_fits (length s.fine.tiles)) s.images) g.shaped.images).0 in
+    let e = (and_parts (nat_eq (length s.images) (length s.coarse.tiles)) (list_all (image_fits (length s.fine.tiles)) s.images) g.image_list).0 in
     let same : length s.images ≡ length s.coarse.tiles = grind (arith, nat_tests, e) in
-    let f = few_tiles s.fine g.shaped.fine in
-    let c = few_tiles s.coarse g.shaped.coarse in
-    let le = c.1 in
-    (f.1, omega arith, same)
+    let le = g.coarse.few in
+    (g.fine.few, omega arith, same)
 
 pub fits_at : (s : RawStep) → IsGoodStep s → (i : ℕ) → i < length s.images → image_fits (length s.fine.tiles) (image_at s i) ≡ true
-fits_at s g i lt = each_of (image_fits (length s.fine.tiles)) s.images i (Single 0) (and_parts (nat_eq (length s.images) (length s.coarse.tiles)) (list_all (image_fits (length s.fine.tiles)) s.images) g.shaped.images).1 lt
+fits_at s g i lt = each_of (image_fits (length s.fine.tiles)) s.images i (Single 0) (and_parts (nat_eq (length s.images) (length s.coarse.tiles)) (list_all (image_fits (length s.fine.tiles)) s.images) g.image_list).1 lt
 
 module _ (s : RawStep) (g : IsGoodStep s) (k : ℕ) (lk : k < length s.images) (singles pairs : List ℕ) (h : IsIndexed s.images (length s.fine.tiles) k singles pairs) where
   fitting : (i : ℕ) (x : Image) → slice_get s.images i ≡ Some x → image_fits (length s.fine.tiles) x ≡ true

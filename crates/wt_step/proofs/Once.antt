@@ -13,7 +13,8 @@ use Rattle.wt_refute.specs.Entries.{is_entry, entry_before}
 use Rattle.wt_step.specs.Good.{IsGoodStep}
 use Rattle.wt_refute.proofs.Entries.{entries_split}
 use Rattle.wt_step.proofs.Shaped.{refuted_ascend}
-use Rattle.wt_step.proofs.Cores.{above_at, known_entry, named_barred, fits_entry, entry_itself}
+use Rattle.wt_step.proofs.Goodness.{shape_of}
+use Rattle.wt_step.proofs.Named.{above_at, known_entry, named_barred, fits_entry, entry_itself}
 
 -- a list that is split has at most one place with the key
 pub one_place : {A : Type 0} (low hit : A → Bool) (xs : List A) (i j : ℕ) (k l : A) → IsSplit low hit xs → slice_get xs i ≡ Some k → slice_get xs j ≡ Some l → hit k ≡ true → hit l ≡ true → i ≡ j
@@ -69,15 +70,15 @@ module _ (s : RawStep) (g : IsGoodStep s) where
   -- two refutations of one pair are one
   pub named_once : (i j : ℕ) (k l : Refuted) → slice_get s.refuted i ≡ Some k → slice_get s.refuted j ≡ Some l → k.axis ≡ l.axis → k.a ≡ l.a → k.b ≡ l.b → i ≡ j
   named_once i j k l e f x y z =
-      let fk = fits_entry s.radius (length s.fine.tiles) s.refuted i k g.shaped.refuted e in
-      let fl = fits_entry s.radius (length s.fine.tiles) s.refuted j l g.shaped.refuted f in
-      let ek = known_entry s g i k e in
-      let el = known_entry s g j l f in
-      let barred = named_barred s g k.axis k.a k.b k.radius k fk.1 fk.2 fk.0 ek in
+      let fk = fits_entry s.radius (length s.fine.tiles) s.refuted i k g.refuted_list e in
+      let fl = fits_entry s.radius (length s.fine.tiles) s.refuted j l g.refuted_list f in
+      let ek = known_entry s g.refuted_list i k e in
+      let el = known_entry s g.refuted_list j l f in
+      let barred = named_barred s g.named k.axis k.a k.b k.radius k fk.1 fk.2 fk.0 ek in
       let w = rw barred at (g.named k.axis k.a k.b fk.1 fk.2) in
       let one : times s k.axis k.a k.b ≡ 1 = grind (arith, nat_tests, w) in
       let el' : entry_at s k.axis k.a k.b l.radius ≡ Some l = rw (x, y, z) el in
       let r = same_radius k.axis k.a k.b k.radius l.radius k l one fk.0 fl.0 ek el' in
       let hl : is_entry k.radius k.axis k.a k.b l ≡ true = rw (r, x, y, z) (entry_itself l) in
       one_place (entry_before k.radius k.axis k.a k.b) (is_entry k.radius k.axis k.a k.b) s.refuted i j k l
-      (entries_split k.radius k.axis k.a k.b s.refuted (refuted_ascend s g.shaped)) e f (entry_itself k) hl
+      (entries_split k.radius k.axis k.a k.b s.refuted (refuted_ascend s (shape_of s g))) e f (entry_itself k) hl

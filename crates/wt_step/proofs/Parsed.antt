@@ -19,7 +19,7 @@ use Rattle.wt_step.specs.Words.{is_marker, ends_block}
 use Rattle.wt_step.specs.Good.{IsGoodStep}
 use Rattle.wt_step.specs.Meaning.{pieces, IsMarkerDesubstitution}
 use Rattle.wt_step.specs.Coarse.{is_marked}
-use Rattle.wt_step.specs.Blocks.{core_at, is_marked_line, pairs_at, blocks_in, block_tile, block_at, coarse_at, coarse_grid, one_if, ends_at, IsIndexed}
+use Rattle.wt_step.specs.Blocks.{core_at, marks_in_code, pairs_at, blocks_in, block_tile, block_at, coarse_at, coarse_grid, one_if, ends_at, IsIndexed}
 use Rattle.wt_step.proofs.Desubstitution.{some_coarse}
 use Rattle.wt_step.proofs.CutListed.{behind, cut_listed}
 use Rattle.wt_step.proofs.Readings.{Reads, reads, length-reads, tiles}
@@ -53,10 +53,10 @@ module _ (s : RawStep) (g : IsGoodStep s) (p : Grid) where
       at_core s.axis s.radius p i j li lj ∙ sym (rw (tx, ty) refl)
 
   abbrev low : Bool
-  low = ends_block s.side (is_marked_line s p 0)
+  low = ends_block s.side (marks_in_code s p 0)
 
   abbrev high : Bool
-  high = not (ends_block s.side (is_marked_line s p (along s.axis (core s.radius p) - 1)))
+  high = not (ends_block s.side (marks_in_code s p (along s.axis (core s.radius p) - 1)))
 
   module _ (h : IsPattern s.fine.tiles p) (la : 3 ≤ along s.axis (core s.radius p)) (m : ℕ) (em : across s.axis (core s.radius p) ≡ suc m) where
     abbrev n : ℕ
@@ -70,7 +70,7 @@ module _ (s : RawStep) (g : IsGoodStep s) (p : Grid) where
         listed_same (across s.axis (core s.radius p)) (λ j. at s.axis (core s.radius p) i j) (core_at s p i) (λ j lj. core_cell i j lt lj)
         ∙ ap (λ (k : ℕ). listed k (core_at s p i)) em
 
-    flag_same : (i : ℕ) → i < n → is_marker_line (is_marker s) (F i) ≡ is_marked_line s p i
+    flag_same : (i : ℕ) → i < n → is_marker_line (is_marker s) (F i) ≡ marks_in_code s p i
     flag_same i lt = ap (is_marker_line (is_marker s)) (line_same i lt)
 
     same_cut : (c c' : ℕ) (a a' b b' : Bool) → c ≡ c' → a ≡ a' → b ≡ b'
@@ -84,8 +84,8 @@ module _ (s : RawStep) (g : IsGoodStep s) (p : Grid) where
         let last : suc (n - 2) ≡ n - 1 = omega arith in
         ap (λ (c : ℕ). cut s.side (is_marker s) (listed c F)) e
         ∙ (cut_listed (is_marker s) s.side (n - 2) F
-        ∙ same_cut (suc (suc (n - 2))) n (is_marker_line (is_marker s) (F 0)) (is_marked_line s p 0) (is_marker_line (is_marker s) (F (suc (n - 2)))) (is_marked_line s p (n - 1))
-        (sym e) (flag_same 0 (omega arith)) (flag_same (suc (n - 2)) (omega arith) ∙ ap (is_marked_line s p) last))
+        ∙ same_cut (suc (suc (n - 2))) n (is_marker_line (is_marker s) (F 0)) (marks_in_code s p 0) (is_marker_line (is_marker s) (F (suc (n - 2)))) (marks_in_code s p (n - 1))
+        (sym e) (flag_same 0 (omega arith)) (flag_same (suc (n - 2)) (omega arith) ∙ ap (marks_in_code s p) last))
 
     pub the_reads : (qs : List (List ℕ)) → IsImage (pieces s) qs (cut s.side (is_marker s) (lines s.axis (core s.radius p)))
         → Reads (pieces s) (λ i. listed (suc m) (core_at s p i)) (blocks_in (pairs_at s p) false (one_if low) (n - (one_if low + one_if high))) qs
@@ -142,7 +142,7 @@ module _ (s : RawStep) (g : IsGoodStep s) (p : Grid) (h : IsPattern s.fine.tiles
   parsed_of (suc m) e le eb ones twos index = parsed s g p h la m e bs eb ones twos index
 
 -- whether a line of the core is one of markers
-pub marked_same : (s : RawStep) (g : IsGoodStep s) (p : Grid) (i : ℕ) → i < along s.axis (core s.radius p) → 1 ≤ across s.axis (core s.radius p) → is_marked_line s p i ≡ is_marked s p i
+pub marked_same : (s : RawStep) (g : IsGoodStep s) (p : Grid) (i : ℕ) → i < along s.axis (core s.radius p) → 1 ≤ across s.axis (core s.radius p) → marks_in_code s p i ≡ is_marked s p i
 marked_same s g p i li lj = ap (is_marker s) (sym (core_cell s g p i 0 li (omega arith)))
 
 -- what the code makes of its blocks

@@ -290,6 +290,7 @@ module _ (s : RawStep) (h : IsShaped s) (axis : Axis) (a b : ℕ) where
     pub refuted_miss : (place : ℕ) → place ≡ refuted_place s axis a b radius → is_some (entry_at s axis a b radius) ≡ false → place ≡ refuted_place s axis a (b + 1) radius
     refuted_miss place p e = let n = rw e at (refuted_next radius) in p ∙ sym n
 
+-- the places past the last pair of a row are those of the first pair of the next
 pub next_row : (s : RawStep) (axis : Axis) (a : ℕ) (places : Places) → IsShaped s → IsAtPlace s axis a (length s.fine.tiles) places → IsAtPlace s axis (a + 1) 0 places
 next_row s axis a places h p =
     let n = length s.fine.tiles in

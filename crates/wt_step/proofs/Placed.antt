@@ -6,7 +6,6 @@ use Rattle.std.proofs.lemmas.Bool.{cases_lt, and_parts}
 use Rattle.std.proofs.lemmas.Bool.Decides.{nat_tests}
 use Rattle.std.proofs.lemmas.Option.{slice_get-map}
 use Rattle.std.proofs.lemmas.List.{get_or-set_same, get_or-set_other, length-set}
-use Rattle.wt_tile.proofs.Sizes.{few_tiles}
 use Rattle.wt_grid.specs.Order.{in_order, leads, comes_before, is_below}
 use Rattle.wt_grid.specs.Grid.{Grid, cell, grid_of}
 use Rattle.wt_grid.specs.Parts.{core}
@@ -39,14 +38,12 @@ there (x ∷ xs) (suc i) lt = there xs i (omega arith)
 pub kept_sizes : (s : RawRestrict) → IsGoodRestrict s → (length s.fine.tiles ≤ 256) × (length s.kept ≤ 256)
 kept_sizes s g =
     let same = count_kept s g in
-    let f = few_tiles s.fine g.sorted.fine in
-    let c = few_tiles s.coarse g.sorted.coarse in
-    let le = c.1 in
-    (f.1, omega arith)
+    let le = g.coarse.few in
+    (g.fine.few, omega arith)
 
 module _ (s : RawRestrict) (g : IsGoodRestrict s) where
   kept_below : (i a : ℕ) → slice_get s.kept i ≡ Some a → a < length s.fine.tiles
-  kept_below i a e = each_below (length s.fine.tiles) s.kept i a (and_parts (in_order (is_below (length s.fine.tiles)) comes_before s.kept) (nat_eq (length s.kept) (length s.coarse.tiles)) g.sorted.kept).0 e
+  kept_below i a e = each_below (length s.fine.tiles) s.kept i a (and_parts (in_order (is_below (length s.fine.tiles)) comes_before s.kept) (nat_eq (length s.kept) (length s.coarse.tiles)) g.kept_list).0 e
 
   pub kept_inside : (k : ℕ) → k < length s.kept → kept_at s k < length s.fine.tiles
   kept_inside k lt = kept_below k (kept_at s k) (there s.kept k lt)

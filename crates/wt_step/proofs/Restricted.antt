@@ -1,5 +1,7 @@
 -- Good restrict steps, and what they make of valid rectangles.
 use Rattle.std.proofs.Common.{arith, ◌≡◌, ◌≤◌, ◌<◌, ℕ, zero, suc, List, [], ◌∷◌, length, map, slice_get, Option, None, Some, option_map, Bool, true, false, not, nat_eq, nat_lt, nat_le, refl, sym, ◌∙◌, ap, subst, inl}
+use Rattle.wt_grid.proofs.Unless.{holds, fits}
+use Rattle.wt_grid.specs.Unless.{unless}
 use Rattle.std.proofs.lemmas.Bool.{and_parts}
 use Rattle.std.specs.List.{list_any}
 use Rattle.wt_grid.specs.declared.image.Image.TheVariants.{One as Single, Two as Double}
@@ -12,7 +14,8 @@ use Rattle.std.proofs.lemmas.List.{length-map}
 use Rattle.wt_tile.specs.Sets.{set_fault}
 use Rattle.wt_tile.specs.Matching.{matches}
 use Rattle.wt_refute.specs.Refutes.{tile_tree_fault}
-use Rattle.wt_refute.proofs.Faults.{absent}
+use Rattle.wt_refute.proofs.Faults.{absent, no_tile_fault}
+use Rattle.wt_tile.proofs.TileSets.{tile_set, no_fault as set_none}
 use Rattle.wt_grid.specs.Order.{in_order, first_in, agree, comes_before, is_below, IsSplit}
 use Rattle.wt_grid.proofs.First.{neither, none_from, all_none, none_under}
 use Rattle.wt_grid.proofs.Order.{split, agreed, agrees}
@@ -28,13 +31,11 @@ use Rattle.wt_grid.proofs.Rectangles.{same_lines, below_lines, in_image}
 use Rattle.wt_pattern.specs.Patterns.{IsPattern}
 use Rattle.wt_step.specs.declared.raw.RawRestrict.{RawRestrict}
 use Rattle.wt_step.specs.declared.raw.StepFault.TheVariants.{Radius, Fine, Coarse, Kept, LostList, LostNode, Join}
-use Rattle.wt_step.specs.Faults.{unless}
 use Rattle.wt_step.specs.Restrict.{kept_fit, lost_fit, is_kept, is_lost, loses, sorted_fault_at, lost_fault, lost_fault_at, kept_at, kept_match, kept_join_at, kept_join_row, kept_join_fault, sorting_fault, use_fault, restrict_fault}
 use Rattle.wt_step.specs.Good.{IsGoodRestrict}
 use Rattle.wt_step.specs.Meaning.{kept_pieces, IsRestrictDesubstitution}
-use Rattle.wt_step.proofs.Shaped.{holds}
 use Rattle.wt_step.proofs.Sorted.{sorted}
-use Rattle.wt_step.proofs.Goodness.{none_both, fits}
+use Rattle.wt_step.proofs.Faultless.{none_both}
 use Rattle.wt_step.proofs.Tables.{some_of, has_some}
 use Rattle.wt_step.proofs.Once.{one_place}
 
@@ -67,8 +68,14 @@ module _ (s : RawRestrict) where
       let l = neither (lost_fault s) _ n.1 in
       let j = neither (kept_join_fault s One) (kept_join_fault s Two) l.1 in
       record {
-        sorted = sorted s n.0;
-        trees = λ i x f. none_under (LostNode x.tile) (tile_tree_fault s.fine.tiles x.tile s.radius x.tree) (none_of (lost_fault_at s) s.lost l.0 i x f);
+        radius = (sorted s n.0).radius;
+        fine = tile_set s.fine (sorted s n.0).fine;
+        coarse = tile_set s.coarse (sorted s n.0).coarse;
+        kept_list = (sorted s n.0).kept;
+        lost_list = (sorted s n.0).lost;
+        sorted = (sorted s n.0).sorted;
+        trees = λ i x f. (no_tile_fault s.fine.tiles x.tile s.radius x.tree).0
+            (none_under (LostNode x.tile) (tile_tree_fault s.fine.tiles x.tile s.radius x.tree) (none_of (lost_fault_at s) s.lost l.0 i x f));
         joins = λ axis i k li lk. joins_good axis (each_axis (λ x. kept_join_fault s x ≡ None) j.0 j.1 axis) i k li lk;
       }
 
@@ -76,14 +83,14 @@ module _ (s : RawRestrict) (g : IsGoodRestrict s) where
   no_sorting : sorting_fault s ≡ None
   unfolding sorting_fault
   no_sorting =
-      let small : nat_le s.radius 4 ≡ true = (let r = g.sorted.radius in grind (arith, nat_tests, r)) in
+      let small : nat_le s.radius 4 ≡ true = (let r = g.radius in grind (arith, nat_tests, r)) in
       none_both (unless (nat_le s.radius 4) Radius) _ (fits (nat_le s.radius 4) Radius small)
-      (none_both (option_map Fine (set_fault s.fine)) _ (ap (option_map Fine) g.sorted.fine)
-      (none_both (option_map Coarse (set_fault s.coarse)) _ (ap (option_map Coarse) g.sorted.coarse)
-      (none_both (unless (kept_fit s) Kept) _ (fits (kept_fit s) Kept g.sorted.kept)
-      (none_both (unless (lost_fit s) LostList) _ (fits (lost_fit s) LostList g.sorted.lost)
+      (none_both (option_map Fine (set_fault s.fine)) _ (ap (option_map Fine) (set_none s.fine g.fine))
+      (none_both (option_map Coarse (set_fault s.coarse)) _ (ap (option_map Coarse) (set_none s.coarse g.coarse))
+      (none_both (unless (kept_fit s) Kept) _ (fits (kept_fit s) Kept g.kept_list)
+      (none_both (unless (lost_fit s) LostList) _ (fits (lost_fit s) LostList g.lost_list)
       (all_none (sorted_fault_at s) 0 (length s.fine.tiles) (λ t lo lt.
-      fits (agree (is_lost s t) (not (is_kept s t))) LostList (agrees (is_lost s t) (not (is_kept s t)) (g.sorted.sorted t (omega arith)))))))))
+      fits (agree (is_lost s t) (not (is_kept s t))) LostList (agrees (is_lost s t) (not (is_kept s t)) (g.sorted t (omega arith)))))))))
 
   no_kept_join : (axis : Axis) → kept_join_fault s axis ≡ None
   no_kept_join axis = all_none (kept_join_row s axis) 0 (length s.coarse.tiles) (λ i lo li. all_none (kept_join_at s axis i) 0 (length s.coarse.tiles) (λ j lo' lj.
@@ -94,7 +101,7 @@ module _ (s : RawRestrict) (g : IsGoodRestrict s) where
   unfolding restrict_fault
   no_restrict_fault =
       none_both (sorting_fault s) (use_fault s) no_sorting
-      (none_both (lost_fault s) _ (none_list (lost_fault_at s) s.lost (λ i l e. ap (option_map (LostNode l.tile)) (g.trees i l e)))
+      (none_both (lost_fault s) _ (none_list (lost_fault_at s) s.lost (λ i l e. ap (option_map (LostNode l.tile)) ((no_tile_fault s.fine.tiles l.tile s.radius l.tree).1 (g.trees i l e))))
       (none_both (kept_join_fault s One) (kept_join_fault s Two) (no_kept_join One) (no_kept_join Two)))
 
 -- Lines of kept tiles.
@@ -160,13 +167,13 @@ module _ (s : RawRestrict) (g : IsGoodRestrict s) where
       go false e =
           let t = cell (core s.radius c) x y in
           let below = core_below One (length s.fine.tiles) s.radius c p.1 x y lx ly in
-          let lost : is_lost s t ≡ true = g.sorted.sorted t below ∙ rw e refl in
+          let lost : is_lost s t ≡ true = g.sorted t below ∙ rw e refl in
           let l = has_some (loses t) s.lost lost in
           let same : t ≡ l.1.tile = (let f = l.3 in grind (arith, nat_tests, f)) in
-          absurd (absent s.fine.tiles l.1.tile s.radius l.1.tree (g.trees l.0 l.1 l.2) c p x y lx ly same)
+          absurd (absent s.fine.tiles l.1.tile s.radius l.1.tree ((no_tile_fault s.fine.tiles l.1.tile s.radius l.1.tree).1 (g.trees l.0 l.1 l.2)) c p x y lx ly same)
 
   pub count_kept : length s.kept ≡ length s.coarse.tiles
-  count_kept = let e = (and_parts (in_order (is_below (length s.fine.tiles)) comes_before s.kept) (nat_eq (length s.kept) (length s.coarse.tiles)) g.sorted.kept).1 in grind (arith, nat_tests, e)
+  count_kept = let e = (and_parts (in_order (is_below (length s.fine.tiles)) comes_before s.kept) (nat_eq (length s.kept) (length s.coarse.tiles)) g.kept_list).1 in grind (arith, nat_tests, e)
 
   kept_joined : (axis : Axis) (i j a b : ℕ) → slice_get s.kept i ≡ Some a → slice_get s.kept j ≡ Some b → matches s.fine.tiles axis a b ≡ true → matches s.coarse.tiles axis i j ≡ true
   kept_joined axis i j a b e f m =
@@ -205,7 +212,7 @@ module _ (s : RawRestrict) (g : IsGoodRestrict s) where
 
   pub kept_once : (i j a : ℕ) → slice_get s.kept i ≡ Some a → slice_get s.kept j ≡ Some a → i ≡ j
   kept_once i j a e f =
-      let o = (and_parts (in_order (is_below (length s.fine.tiles)) comes_before s.kept) (nat_eq (length s.kept) (length s.coarse.tiles)) g.sorted.kept).0 in
+      let o = (and_parts (in_order (is_below (length s.fine.tiles)) comes_before s.kept) (nat_eq (length s.kept) (length s.coarse.tiles)) g.kept_list).0 in
       one_place (λ z. nat_lt z a) (nat_eq a) s.kept i j a a (numbers_split (length s.fine.tiles) a s.kept o) e f (same_number a) (same_number a)
 
   ones_apart : (i j : ℕ) (p : Image) → slice_get (kept_pieces s) i ≡ Some p → slice_get (kept_pieces s) j ≡ Some p → i ≡ j

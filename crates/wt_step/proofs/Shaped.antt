@@ -1,5 +1,7 @@
 -- Lists without a fault are in order and in range.
 use Rattle.std.proofs.Common.{arith, ◌≡◌, Option, None, Some, option_map, Bool, true, false, length, nat_le, refl}
+use Rattle.wt_grid.proofs.Unless.{holds}
+use Rattle.wt_grid.specs.Unless.{unless}
 use Rattle.wt_grid.specs.declared.axis.Axis.TheVariants.{One, Two}
 use Rattle.wt_grid.specs.declared.axis.Axis.{Axis}
 use Rattle.std.proofs.lemmas.Bool.Decides.{nat_tests}
@@ -11,11 +13,7 @@ use Rattle.wt_grid.proofs.First.{neither, none_under}
 use Rattle.wt_step.specs.declared.raw.RawStep.{RawStep}
 use Rattle.wt_step.specs.declared.raw.StepFault.{StepFault}
 use Rattle.wt_step.specs.declared.raw.StepFault.TheVariants.{Radius, Fine, Coarse, Markers, Allowed, RefutedList, Images}
-use Rattle.wt_step.specs.Faults.{unless, shape_fault, markers_fit, allowed_fit, refuted_fit, images_fit, IsShaped}
-
-pub holds : (b : Bool) (fault : StepFault) → unless b fault ≡ None → b ≡ true
-holds true fault e = refl
-holds false fault e = absurd cc
+use Rattle.wt_step.specs.Faults.{shape_fault, markers_fit, allowed_fit, refuted_fit, images_fit, IsShaped}
 
 pub shaped : (s : RawStep) → shape_fault s ≡ None → IsShaped s
 unfolding shape_fault

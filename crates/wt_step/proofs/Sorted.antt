@@ -1,5 +1,7 @@
 -- Restrict steps whose lists have no fault.
 use Rattle.std.proofs.Common.{arith, ◌≡◌, length, None, option_map, not, nat_le}
+use Rattle.wt_grid.proofs.Unless.{holds}
+use Rattle.wt_grid.specs.Unless.{unless}
 use Rattle.wt_grid.proofs.Order.{agreed}
 use Rattle.std.proofs.lemmas.Bool.Decides.{nat_tests}
 use Rattle.wt_tile.specs.Sets.{set_fault}
@@ -7,9 +9,7 @@ use Rattle.wt_grid.specs.Order.{agree}
 use Rattle.wt_grid.proofs.First.{neither, none_from, none_under}
 use Rattle.wt_step.specs.declared.raw.RawRestrict.{RawRestrict}
 use Rattle.wt_step.specs.declared.raw.StepFault.TheVariants.{Radius, Fine, Coarse, Kept, LostList}
-use Rattle.wt_step.specs.Faults.{unless}
 use Rattle.wt_step.specs.Restrict.{kept_fit, lost_fit, sorted_fault, sorted_fault_at, is_lost, is_kept, sorting_fault, IsSorted}
-use Rattle.wt_step.proofs.Shaped.{holds}
 
 pub sorted : (s : RawRestrict) → sorting_fault s ≡ None → IsSorted s
 unfolding sorting_fault

@@ -23,7 +23,7 @@ use Rattle.wt_step.specs.Faults.{is_good_image, is_demanded}
 use Rattle.wt_step.specs.Good.{IsGoodStep}
 use Rattle.wt_morphism.specs.Images.{piece}
 use Rattle.wt_step.specs.Meaning.{pieces}
-use Rattle.wt_step.proofs.Goodness.{is_pair_same}
+use Rattle.wt_step.proofs.Faultless.{is_pair_same}
 
 pub same_itself : (axis : Axis) → same_axis axis axis ≡ true
 same_itself One = refl
@@ -148,7 +148,7 @@ module _ (s : RawStep) (g : IsGoodStep s) where
   distinct i j (Double a b) e f = one_image i j (Double a b) (from_pieces (slice_get s.images i) a b (sym (slice_get-map piece s.images i) ∙ e)) (from_pieces (slice_get s.images j) a b (sym (slice_get-map piece s.images j) ∙ f))
 
   pub in_range : (axis : Axis) (a b : ℕ) → allows s axis a b ≡ true → (a < length s.fine.tiles) × (b < length s.fine.tiles)
-  in_range axis a b h = fits_at (length s.fine.tiles) (allowed s axis) a b (g.shaped.allowed axis) h
+  in_range axis a b h = fits_at (length s.fine.tiles) (allowed s axis) a b (g.allowed_lists axis) h
 
   placed : (x : Image) (y : Image) (i : ℕ) (p : Image) → slice_get s.images i ≡ Some y → y ≡ x → piece x ≡ p → slice_get (pieces s) i ≡ Some p
   placed x y i p e f h = slice_get-map piece s.images i ∙ (rw (e, f, h) refl)

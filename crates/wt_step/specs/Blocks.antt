@@ -18,12 +18,13 @@ cell_at p axis i j = if nat_lt i (along axis p) && nat_lt j (across axis p) then
 abbrev pub core_at : RawStep → Grid → ℕ → ℕ → ℕ
 core_at s p i j = cell_at p s.axis (s.radius + i) (s.radius + j)
 
-abbrev pub is_marked_line : RawStep → Grid → ℕ → Bool
-is_marked_line s p i = is_marker s (core_at s p i 0)
+-- Whether line i of the core is a line of markers, as the code reads it: a line outside counts as tile 0. In a core it is `is_marked` of Coarse.
+abbrev pub marks_in_code : RawStep → Grid → ℕ → Bool
+marks_in_code s p i = is_marker s (core_at s p i 0)
 
 -- lines i and i + 1 are one block
 abbrev pub pairs_at : RawStep → Grid → ℕ → Bool
-pairs_at s p i = joined s.side (is_marked_line s p i) (is_marked_line s p (i + 1))
+pairs_at s p i = joined s.side (marks_in_code s p i) (marks_in_code s p (i + 1))
 
 -- the blocks of n lines from line i on, where the first of them may end a block
 abbrev pub blocks_in : (ℕ → Bool) → Bool → ℕ → ℕ → List Block
@@ -39,11 +40,12 @@ pub record IsIndexed (images : List Image) (n k : ℕ) (singles pairs : List ℕ
   pub ones : (i a : ℕ) → i < k → slice_get images i ≡ Some (Single a) → slice_index singles a ≡ i
   pub twos : (i a b : ℕ) → i < k → slice_get images i ≡ Some (Double a b) → slice_index pairs (a * n + b) ≡ i
 
--- the lists with image number i noted at its tiles
+-- the list of single tiles with image number i noted at its tile
 abbrev pub note_single : Image → ℕ → List ℕ → List ℕ
 note_single (Single a) i singles = slice_set singles a i
 note_single (Double a b) i singles = singles
 
+-- the list of pairs of tiles, n in a row, with image number i noted at its two
 abbrev pub note_pair : ℕ → Image → ℕ → List ℕ → List ℕ
 note_pair n (Single a) i pairs = pairs
 note_pair n (Double a b) i pairs = slice_set pairs (a * n + b) i
@@ -54,6 +56,7 @@ block_tile s p singles pairs block j =
     if block.double then slice_index pairs (core_at s p block.line j * length s.fine.tiles + core_at s p (block.line + 1) j)
     else slice_index singles (core_at s p block.line j)
 
+-- block i; an empty one past the last
 abbrev pub block_at : List Block → ℕ → Block
 block_at blocks i = slice_index_or blocks i (record { line = 0; double = false })
 
@@ -66,11 +69,12 @@ coarse_at s p singles pairs blocks Two x y = block_tile s p singles pairs (block
 abbrev pub coarse_cell : RawStep → Grid → List ℕ → List ℕ → List Block → ℕ → ℕ → ℕ
 coarse_cell s p singles pairs blocks width k = coarse_at s p singles pairs blocks s.axis (k % width) (k / width)
 
--- the width and the height of n lines of m cells each
+-- the width of n lines of m cells each
 abbrev pub width_of : Axis → ℕ → ℕ → ℕ
 width_of One n m = n
 width_of Two n m = m
 
+-- and their height
 abbrev pub height_of : Axis → ℕ → ℕ → ℕ
 height_of One n m = m
 height_of Two n m = n
@@ -86,7 +90,7 @@ one_if false = 0
 
 -- whether line i of the core ends a block
 abbrev pub ends_at : RawStep → Grid → ℕ → Bool
-ends_at s p i = ends_block s.side (is_marked_line s p i)
+ends_at s p i = ends_block s.side (marks_in_code s p i)
 
 -- the places of the first k kept tiles, by tile, for n tiles
 pub record IsPlaced (kept : List ℕ) (n k : ℕ) (places : List ℕ) : Type 0 where
@@ -97,5 +101,6 @@ pub record IsPlaced (kept : List ℕ) (n k : ℕ) (places : List ℕ) : Type 0 w
 abbrev pub kept_tile : RawRestrict → Grid → List ℕ → ℕ → ℕ → ℕ
 kept_tile s p places x y = slice_index places (cell_at p One (s.radius + x) (s.radius + y))
 
+-- the same for cell k in reading order
 abbrev pub kept_cell : RawRestrict → Grid → List ℕ → ℕ → ℕ → ℕ
 kept_cell s p places width k = kept_tile s p places (k % width) (k / width)

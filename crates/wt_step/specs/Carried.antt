@@ -1,5 +1,5 @@
 -- What a step makes of a period: its part along the step's axis is counted in blocks.
-use Rattle.std.specs.Prelude.{◌≡◌, ℕ, suc, ◌+◌, ◌≤◌, ℤ, pos, negsuc, neg_ℤ, Bool, false, ◌&&◌, nat_le, length, take, drop}
+use Rattle.std.specs.Prelude.{◌≡◌, ℕ, suc, ◌+◌, ◌≤◌, ◌<◌, ℤ, pos, negsuc, neg_ℤ, Bool, false, ◌&&◌, nat_le, length, take, drop}
 use Rattle.wt_grid.specs.declared.axis.Axis.TheVariants.{One, Two}
 use Rattle.wt_grid.specs.declared.axis.Axis.{Axis}
 use Rattle.wt_grid.specs.Grid.{Grid, along, lines}
@@ -10,6 +10,7 @@ use Rattle.wt_step.specs.declared.raw.RawStep.{RawStep}
 use Rattle.wt_step.specs.declared.raw.RawLink.{RawLink}
 use Rattle.wt_step.specs.declared.raw.RawLink.TheVariants.{Marker, Restrict}
 use Rattle.wt_step.specs.Meaning.{pieces}
+use Rattle.wt_step.specs.Cores.{core_length, core_width}
 use Rattle.wt_step.specs.Blocks.{pairs_at, blocks_in, one_if, ends_at}
 
 -- how many lines the first n lines of the coarse rectangle q stand for
@@ -24,6 +25,14 @@ pub record IsCarried (s : RawStep) (opposed : Bool) (d e n : ℕ) (q : Grid) : T
   -- no longer than before, and at least half as long: so none exactly where there was none
   pub shorter : n ≤ d
   pub half : d ≤ n + n
+
+-- the core has three lines more along the axis than d, and one cell more across it than e
+abbrev pub HasRoom : RawStep → Grid → ℕ → ℕ → Type 0
+HasRoom s p d e = (d + 3 ≤ core_length s p) × (e < core_width s p)
+
+-- each period of p for which there is room has become one of the coarse rectangle q
+abbrev pub HasCarriedPeriods : RawStep → Grid → Grid → Type 0
+HasCarriedPeriods s p q = (opposed : Bool) (d e : ℕ) → HasRoom s p d e → HasVector s.axis opposed d e p → (n : ℕ) × IsCarried s opposed d e n q
 
 -- ---- vectors of integers
 
@@ -73,13 +82,16 @@ IsCountedBy (Restrict s) q dx dy v = v ≡ (dx, dy)
 abbrev pub blocks_begun : RawStep → Grid → ℕ → ℕ
 blocks_begun s p d = length (blocks_in (pairs_at s p) false (one_if (ends_at s p 0)) d)
 
+-- a component counted in blocks, with its sign
 abbrev pub in_blocks : RawStep → Grid → ℤ → ℤ
 in_blocks s p d = with_sign d (blocks_begun s p (magnitude d))
 
+-- a vector whose component along the axis is counted so
 abbrev pub vector_along : Axis → RawStep → Grid → ℤ → ℤ → ℤ × ℤ
 vector_along One s p dx dy = (in_blocks s p dx, dy)
 vector_along Two s p dx dy = (dx, in_blocks s p dy)
 
+-- the same for a step of either kind
 abbrev pub carried_vector : RawLink → Grid → ℤ → ℤ → ℤ × ℤ
 carried_vector (Marker s) p dx dy = vector_along s.axis s p dx dy
 carried_vector (Restrict s) p dx dy = (dx, dy)

@@ -1,5 +1,5 @@
 -- What a step means for rectangles.
-use Rattle.std.specs.Prelude.{ℕ, Bool, List, map}
+use Rattle.std.specs.Prelude.{ℕ, ◌≡◌, ◌<◌, Bool, true, List, map}
 use Rattle.wt_grid.specs.declared.image.Image.TheVariants.{One as Single}
 use Rattle.wt_grid.specs.declared.image.Image.{Image}
 use Rattle.wt_grid.specs.declared.axis.Side.TheVariants.{After, Before}
@@ -12,14 +12,17 @@ use Rattle.wt_step.specs.declared.raw.RawLink.{RawLink}
 use Rattle.wt_step.specs.declared.raw.RawLink.TheVariants.{Marker, Restrict}
 use Rattle.wt_morphism.specs.Images.{piece}
 use Rattle.wt_step.specs.Words.{allows, is_marker}
+use Rattle.wt_step.specs.Restrict.{is_kept}
 use Rattle.wt_grid.specs.Lines.{IsImage}
-use Rattle.wt_grid.specs.Grid.{Grid, lines}
+use Rattle.wt_grid.specs.Grid.{Grid, cell, lines}
 use Rattle.wt_grid.specs.Cuts.{cut}
 use Rattle.wt_grid.specs.Parts.{core}
 
+-- what a step allows, as a rule of matching
 abbrev pub allowing : RawStep → Axis → ℕ → ℕ → Bool
 allowing s axis = allows s axis
 
+-- what the coarse tiles stand for
 abbrev pub pieces : RawStep → List Image
 pieces s = map piece s.images
 
@@ -40,6 +43,10 @@ kept_pieces s = map Single s.kept
 -- the coarse rectangle q has the whole core of g as its image
 abbrev pub IsRestrictDesubstitution : RawRestrict → Grid → Grid → Type 0
 IsRestrictDesubstitution s g q = IsImage (kept_pieces s) (lines One q) (lines One (core s.radius g))
+
+-- each cell of a rectangle is a kept tile
+abbrev pub IsAllKept : RawRestrict → Grid → Type 0
+IsAllKept s g = (x y : ℕ) → x < g.width → y < g.height → is_kept s (cell g x y) ≡ true
 
 -- what each coarse tile of a step of either kind stands for
 abbrev pub pieces_of : RawLink → List Image

@@ -9,6 +9,7 @@ ghost use Rattle.wt_step.specs.Good.{IsGoodStep};
 ghost use Rattle.wt_step.specs.Meaning.{IsMarkerDesubstitution};
 ghost use Rattle.wt_step.specs.Blocks.{pairs_at, blocks_in, coarse_grid};
 ghost use Rattle.wt_step.specs.Blocks as block_words;
+ghost use Rattle.wt_step.specs.Cores.{core_length, core_width};
 ghost use Rattle.wt_step.specs.Coarse.{is_marked};
 
 use crate::blocks::{Block, count_across, count_lines, find_blocks, is_marked_line};
@@ -55,6 +56,7 @@ pub fn ends_at(raw: &RawStep, p: &Pattern, i: usize) -> bool
     ends_block(raw.side, is_marked_line(raw, p, i))
 }
 
+/// How many lines a cut takes.
 pub fn one_if(cut: bool) -> u16
     ensures value { result ≡ block_words.one_if cut }
     ensures small { result ≤ 1 }
@@ -71,11 +73,11 @@ fn core_blocks(
     low: bool,
     high: bool,
 ) -> Result<Vec<Block>, AllocError>
-    requires { 3 ≤ along raw.now.axis (core raw.now.radius p.now) }
+    requires { 3 ≤ core_length raw.now p.now }
     ensures some { IfOk result (λ blocks. 1 ≤ length blocks.items) }
     ensures few { IfOk result (λ blocks. length blocks.items ≤ 4096) }
     ensures value { IfOk result (λ blocks. blocks.items ≡ blocks_in (pairs_at raw.now p.now) false (block_words.one_if low)
-        (along raw.now.axis (core raw.now.radius p.now) - (block_words.one_if low + block_words.one_if high))) }
+        (core_length raw.now p.now - (block_words.one_if low + block_words.one_if high))) }
 {
     let lines = core_lines(p, raw.axis, raw.radius) as u16;
     find_blocks(alloc, raw, p, one_if(low), lines - one_if(high))
@@ -126,12 +128,12 @@ fn coarse_pattern(
 pub fn take_apart(alloc: Global, raw: &RawStep, p: &Pattern) -> Result<Coarse, AllocError>
     requires good { IsGoodStep raw.now }
     requires pattern { IsPattern raw.now.fine.tiles p.now }
-    requires long { 3 ≤ along raw.now.axis (core raw.now.radius p.now) }
-    requires wide { 1 ≤ across raw.now.axis (core raw.now.radius p.now) }
+    requires long { 3 ≤ core_length raw.now p.now }
+    requires wide { 1 ≤ core_width raw.now p.now }
     ensures coarse { IfOk result (λ c. IsMarkerDesubstitution raw.now p.now c.pattern) }
     ensures valid { IfOk result (λ c. IsPattern raw.now.coarse.tiles c.pattern) }
     ensures low_cut { IfOk result (λ c. c.low_cut ≡ words.ends_block raw.now.side (is_marked raw.now p.now 0)) }
-    ensures high_cut { IfOk result (λ c. c.high_cut ≡ not (words.ends_block raw.now.side (is_marked raw.now p.now (along raw.now.axis (core raw.now.radius p.now) - 1)))) }
+    ensures high_cut { IfOk result (λ c. c.high_cut ≡ not (words.ends_block raw.now.side (is_marked raw.now p.now (core_length raw.now p.now - 1)))) }
 {
     let low_cut = ends_at(raw, p, 0);
     let high_cut = !ends_at(raw, p, core_lines(p, raw.axis, raw.radius) - 1);

@@ -14,7 +14,9 @@ use wt_tile::Axis;
 /// One line of a core, or two, that stand for one coarse line.
 #[derive(Clone, Copy)]
 pub struct Block {
+    /// The number of its first line, counted along the axis from the core's first line.
     pub line: u16,
+    /// Whether it has two lines.
     pub double: bool,
 }
 
@@ -66,9 +68,10 @@ pub fn core_at(raw: &RawStep, p: &Pattern, i: usize, j: usize) -> u16
     cell_at(p, raw.axis, radius + i, radius + j)
 }
 
+/// Whether line i of the core is a line of markers.
 pub fn is_marked_line(raw: &RawStep, p: &Pattern, i: usize) -> bool
     requires { i < 16777217 }
-    ensures { result ≡ spec.is_marked_line raw.now p.now i }
+    ensures { result ≡ spec.marks_in_code raw.now p.now i }
 {
     is_marker(raw, core_at(raw, p, i, 0))
 }

@@ -1,21 +1,15 @@
-// Good steps, borrowed.
+// Good restrict steps, borrowed.
 ghost use Rattle.std.specs.Prelude.{◌≡◌, None};
 ghost use Rattle.wt_step.specs.Restrict as spec;
 
-use crate::{RawRestrict, StepRef};
+use crate::RawRestrict;
 
 /// A good restrict step, borrowed.
 #[derive(Clone, Copy)]
 pub struct RestrictRef<'a> {
+    /// The step as it was read.
     pub raw: &'a RawRestrict,
     pub ghost good: { spec.restrict_fault raw.now ≡ None },
-}
-
-/// A good step of either kind, borrowed.
-#[derive(Clone, Copy)]
-pub enum LinkRef<'a> {
-    Marker(StepRef<'a>),
-    Restrict(RestrictRef<'a>),
 }
 
 impl<'a> RestrictRef<'a> {

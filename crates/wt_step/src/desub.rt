@@ -7,6 +7,7 @@ ghost use Rattle.wt_pattern.specs.Shape.{IsShape};
 ghost use Rattle.wt_pattern.specs.Validity.{first_stranger, first_fault};
 ghost use Rattle.wt_step.specs.Links.{fine_of, coarse_of};
 ghost use Rattle.wt_step.specs.Views.{link_of};
+ghost use Rattle.wt_step.specs.Cores.{core_length, core_width};
 ghost use Rattle.wt_step.specs.Coarse.{IsDesubstitution, cuts_low, cuts_high, desub_fault};
 ghost use Rattle.wt_step.specs.Coarse as spec;
 
@@ -19,7 +20,7 @@ use wt_tile::Axis;
 
 fn marker_margin(raw: &RawStep, p: &Pattern) -> bool
     ensures shape { IsShape p.now }
-    ensures value { result ≡ (nat_le 3 (along raw.now.axis (core raw.now.radius p.now)) && nat_le 1 (across raw.now.axis (core raw.now.radius p.now))) }
+    ensures value { result ≡ (nat_le 3 (core_length raw.now p.now) && nat_le 1 (core_width raw.now p.now)) }
 {
     core_lines(p, raw.axis, raw.radius) >= 3 && core_across(p, raw.axis, raw.radius) >= 1
 }

@@ -31,6 +31,7 @@ impl Model for Step {
 /// A good marker step, borrowed.
 #[derive(Clone, Copy)]
 pub struct StepRef<'a> {
+    /// The step as it was read.
     pub raw: &'a RawStep,
     pub ghost good: { spec.step_fault raw.now ≡ None },
 }

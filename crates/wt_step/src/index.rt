@@ -12,7 +12,9 @@ use wt_morphism::Image;
 /// At tile a of `singles` the number of the image a, and at a * n + b of `pairs` that of a and b, for n tiles.
 #[derive(Drop)]
 pub struct Index {
+    /// By the tile of a single image.
     pub singles: Vec<u16>,
+    /// By the two tiles of a double one.
     pub pairs: Vec<u16>,
 }
 
@@ -30,6 +32,7 @@ fn note_image(index: &mut Index, tiles: usize, image: Image, i: u16)
     }
 }
 
+/// How many tiles the fine set has.
 #[tactic(auto, using(crate::proofs::Indexed::good_sizes))]
 pub fn count_tiles(raw: &RawStep) -> usize
     requires { IsGoodStep raw.now }

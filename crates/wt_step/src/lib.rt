@@ -1,5 +1,6 @@
-//! Good steps: what makes a marker step or a restrict step good, with the first fault of one that is not; what each does to a
-//! valid rectangle, as laws; and `desubstitute`, which takes a pattern apart.
+//! Good steps: what makes a marker step or a restrict step good, with the first fault of one that is not; what
+//! each does to a valid rectangle, as laws; and `desubstitute`, which takes a pattern apart. Worked rows stand
+//! in wt_program's tests, and a small good step is worked out as theorems in `proofs/Examples.antt`.
 #![tactic(auto)]
 
 mod apart;
@@ -13,7 +14,7 @@ mod desub;
 mod good;
 mod index;
 mod keep;
-mod law;
+mod laws;
 mod link;
 mod order;
 mod raw;
@@ -24,16 +25,16 @@ mod shape;
 mod step;
 mod walk;
 
-pub use borrowed::{LinkRef, RestrictRef};
+pub use borrowed::RestrictRef;
 pub use carry::{carry_period, has_room};
 pub use coarse::{Coarse, DesubFault};
 pub use copy::copy_link;
 pub use desub::desubstitute;
 pub use good::{Step, StepRef, accept_step};
-pub use law::{
-    cores_are_plain, cuts_are_the_border_lines, desubstitutes, good_restricts, good_steps,
-    periods_are_carried, restricts,
+pub use laws::{
+    cores_are_plain, cuts_are_the_border_lines, desubstitutes, good_links, good_restricts,
+    good_steps, periods_are_carried, restricts,
 };
-pub use link::{Link, accept_link, link_fault};
+pub use link::{Link, LinkRef, accept_link, link_fault};
 pub use raw::{Lost, RawLink, RawRestrict, RawStep, StepFault};
 pub use step::step_fault;

@@ -7,7 +7,7 @@ ghost use Rattle.wt_step.specs.declared.raw.RawLink.TheVariants as raw_link;
 
 use crate::restrict::restrict_fault;
 use crate::step::step_fault;
-use crate::{LinkRef, RawLink, RestrictRef, Step, StepFault, StepRef};
+use crate::{RawLink, RestrictRef, Step, StepFault, StepRef};
 use std::marker::Model;
 use wt_tile::SetRef;
 
@@ -81,6 +81,15 @@ impl Link {
     {
         self.raw
     }
+}
+
+/// A good step of either kind, borrowed.
+#[derive(Clone, Copy)]
+pub enum LinkRef<'a> {
+    /// A good marker step.
+    Marker(StepRef<'a>),
+    /// A good restrict step.
+    Restrict(RestrictRef<'a>),
 }
 
 impl<'a> LinkRef<'a> {

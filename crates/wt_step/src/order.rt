@@ -40,12 +40,14 @@ pub fn is_among(number: u16, numbers: &[u16]) -> bool
     false
 }
 
+/// Whether a pair comes before (a, b).
 pub fn pair_before(a: u16, b: u16, pair: (u16, u16)) -> bool
     ensures { result ≡ spec.pair_before a b pair }
 {
     pair.0 < a || (pair.0 == a && pair.1 < b)
 }
 
+/// Whether a pair is (a, b).
 pub fn is_pair(a: u16, b: u16, pair: (u16, u16)) -> bool
     ensures { result ≡ spec.is_this_pair a b pair }
 {

@@ -34,7 +34,9 @@ pub struct RawStep {
 /// A tile that stands in no core of a restrict step's radius, with the tree that shows it.
 #[derive(Drop)]
 pub struct Lost {
+    /// A fine tile.
     pub tile: u16,
+    /// A tree that refutes the square window of the step's radius round the tile.
     pub tree: Tree,
 }
 
@@ -56,7 +58,9 @@ pub struct RawRestrict {
 /// A step of either kind as it is read.
 #[derive(Drop)]
 pub enum RawLink {
+    /// A marker step.
     Marker(RawStep),
+    /// A restrict step.
     Restrict(RawRestrict),
 }
 
@@ -82,48 +86,67 @@ pub enum StepFault {
     Kept,
     /// The lost tiles aren't the other fine tiles, ascending.
     LostList,
-    /// An allowed pair that doesn't match, a refuted pair that is allowed or doesn't match or is refuted twice, or a matching
-    /// pair that is neither.
+    /// An allowed pair that doesn't match, a refuted pair that is allowed or doesn't match or is refuted twice,
+    /// or a matching pair that is neither.
     Pair {
+        /// The axis along which b stands next to a.
         axis: Axis,
+        /// The left or lower tile, a number of the fine set.
         a: u16,
+        /// The right or upper tile.
         b: u16,
     },
     /// The tree of a refuted pair, whose first wrong node is this one.
     Node {
+        /// The axis along which b stands next to a.
         axis: Axis,
+        /// The left or lower tile, a number of the fine set.
         a: u16,
+        /// The right or upper tile.
         b: u16,
+        /// The node's number in preorder, from 0 at the root.
         node: usize,
     },
     /// The tree of a lost tile, whose first wrong node is this one.
     LostNode {
+        /// The lost tile, a number of the fine set.
         tile: u16,
+        /// The node's number in preorder, from 0 at the root.
         node: usize,
     },
     /// An allowed pair of the axis of two markers, or one of the other axis of a marker and a non-marker.
     Marker {
+        /// The axis along which b stands next to a.
         axis: Axis,
+        /// The left or lower tile, a number of the fine set.
         a: u16,
+        /// The right or upper tile.
         b: u16,
     },
     /// An image that is neither a non-marker nor an allowed pair in the order of the side, or that came before.
     Image {
+        /// The coarse tile whose image it is.
         index: usize,
     },
     /// A non-marker that an allowed pair makes an image, and that is none.
     MissingTile {
+        /// The non-marker, a number of the fine set.
         tile: u16,
     },
     /// An allowed pair of a non-marker and a marker in the order of the side that is no image.
     MissingPair {
+        /// The left or lower tile along the step's axis, a number of the fine set.
         a: u16,
+        /// The right or upper tile.
         b: u16,
     },
     /// Coarse tiles that match otherwise than their images.
     Join {
+        /// The axis along which b stands next to a.
         axis: Axis,
+        /// The left or lower tile, a number of the coarse set.
         a: u16,
+        /// The right or upper tile.
         b: u16,
     },
 }

@@ -126,6 +126,7 @@ fn lost_fault(raw: &RawRestrict) -> Option<StepFault>
     None
 }
 
+/// The fine tile that coarse tile i stands for, or 0 past the last.
 pub fn kept_at(raw: &RawRestrict, i: u16) -> u16
     ensures { result ≡ spec.kept_at raw.now i }
 {

@@ -1,5 +1,5 @@
 use Rattle.wt_step.proofs.Restricted.{good_restrict, no_restrict_fault}
-use Rattle.wt_step.proofs.law.good_restricts.Goals as goal
+use Rattle.wt_step.proofs.laws.good_restricts.Goals as goal
 
 pub returns-clause-good : goal.returns-clause-good
 returns-clause-good c = good_restrict

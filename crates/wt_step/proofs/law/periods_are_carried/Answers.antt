@@ -1,6 +1,0 @@
-use Rattle.wt_step.proofs.Goodness.{good_step}
-use Rattle.wt_step.proofs.PeriodLaw.{carried}
-use Rattle.wt_step.proofs.law.periods_are_carried.Goals as goal
-
-pub returns : goal.returns
-returns c = λ s e p q v iq i opposed d m la lc h. carried s (good_step s e) p q v iq i opposed d m la lc h
