@@ -1,10 +1,13 @@
 //! Standard trees, built.
-ghost use Rattle.std.specs.Prelude.{◌≡◌, ◌+◌, ◌^◌, ◌<◌, ◌≤◌, length, IfOk, IsErrOf, true};
+ghost use Rattle.std.specs.Prelude.{◌≡◌, ◌+◌, ◌^◌, ◌<◌, ◌≤◌, length, IfOk, IsErrOf, None, true};
+ghost use Rattle.wt_tile.specs.Matching.{matches};
+ghost use Rattle.wt_pattern.specs.Windows.{IsEmptyWindow};
 ghost use Rattle.wt_refute.specs.Refutation.{node_count, branch, no_more};
 ghost use Rattle.wt_refute.specs.View.{refutation};
 ghost use Rattle.wt_refute.specs.Placed.{placed};
 ghost use Rattle.wt_refute.specs.Fitted.{AreCounted};
 ghost use Rattle.wt_refute.specs.Entries.{ascends};
+ghost use Rattle.wt_refute.specs.Refutes.{tree_fault};
 ghost use Rattle.wt_refute.specs.Standard.{tree_within, standard_tree};
 
 use crate::check::{free_cells, place_pair};
@@ -105,7 +108,8 @@ fn grow(
 /// at each node the right citation of a known entry with the least cell number, axis 1 before axis 2, else
 /// a branch on the free cell with the fewest fitting tiles, the least cell number first. The known entries
 /// ascend by radius, axis, first and second tile. `Spent` exactly where that tree has more nodes than the
-/// budget, if memory lasts. Where the window is empty the tree refutes it (`standard_trees_refute`).
+/// budget, if memory lasts. Both tiles are in range and match. Where two tiles of a set match and their
+/// window is empty, their standard tree refutes it, whatever entries are known.
 #[tactic(auto, using(wt_tile::proofs::Sizes::few_tiles))]
 pub fn build_tree(
     alloc: Global,
@@ -117,9 +121,13 @@ pub fn build_tree(
     known: &[Refuted],
     budget: u64,
 ) -> Result<Tree, BuildEnd>
+    requires first { a < length set.list.now.tiles }
+    requires second { b < length set.list.now.tiles }
+    requires matched { matches set.list.now.tiles axis a b ≡ true }
     requires radius { radius ≤ 4 }
     requires in_order { ascends known.now ≡ true }
     ensures tree { IfOk result (λ t. refutation t ≡ standard_tree set.entry.list.now.tiles axis a b radius known.now) }
+    ensures refutes { IfOk result (λ t. IsEmptyWindow set.entry.list.now.tiles axis a b radius → tree_fault set.entry.list.now.tiles axis a b radius known.now t ≡ None) }
     ensures enough { IfOk result (λ t. node_count (standard_tree set.entry.list.now.tiles axis a b radius known.now) ≤ budget) }
     ensures spent { IsErrOf result BuildEnd.Spent → budget < node_count (standard_tree set.entry.list.now.tiles axis a b radius known.now) }
 {
@@ -127,7 +135,7 @@ pub fn build_tree(
     build_tree_in(alloc, &sides, axis, a, b, radius, known, budget)
 }
 
-/// The same with the masks of the set's tiles, which many trees can share.
+/// The same as `build_tree` with the masks of the set's tiles, which many trees can share.
 pub fn build_tree_in(
     alloc: Global,
     sides: &Sides<'_>,
@@ -138,9 +146,13 @@ pub fn build_tree_in(
     known: &[Refuted],
     budget: u64,
 ) -> Result<Tree, BuildEnd>
+    requires first { a < length sides.now.tiles.now }
+    requires second { b < length sides.now.tiles.now }
+    requires matched { matches sides.now.tiles.now axis a b ≡ true }
     requires radius { radius ≤ 4 }
     requires in_order { ascends known.now ≡ true }
     ensures tree { IfOk result (λ t. refutation t ≡ standard_tree sides.now.tiles.now axis a b radius known.now) }
+    ensures refutes { IfOk result (λ t. IsEmptyWindow sides.now.tiles.now axis a b radius → tree_fault sides.now.tiles.now axis a b radius known.now t ≡ None) }
     ensures enough { IfOk result (λ t. node_count (standard_tree sides.now.tiles.now axis a b radius known.now) ≤ budget) }
     ensures spent { IsErrOf result BuildEnd.Spent → budget < node_count (standard_tree sides.now.tiles.now axis a b radius known.now) }
 {
