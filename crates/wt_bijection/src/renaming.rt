@@ -4,6 +4,7 @@ ghost use Rattle.std.specs.List.{list_any};
 ghost use Rattle.wt_bijection.specs.Renaming.{pairs_up, tiles_pair_up, first_wrong};
 ghost use Rattle.wt_bijection.specs.Renaming as spec;
 
+use wt_grid::{MAX_TILES, is_among};
 use wt_tile::{SetRef, Tile, tile_at};
 
 /// Whether two colours are equal exactly where those that stand for them are.
@@ -26,23 +27,11 @@ fn tiles_agree(t: Tile, u: Tile, p: Tile, q: Tile) -> bool
         && pair_up(t.south, u.south, p.south, q.south)
 }
 
-/// Whether a number stands in a list.
-fn is_among(number: u16, numbers: &[u16]) -> bool
-    ensures { result ≡ list_any (nat_eq number) numbers.now }
-{
-    for other in numbers {
-        if number == *other {
-            return true;
-        }
-    }
-    false
-}
-
 /// Whether the colours of tile i pair up with those of the tiles up to it.
 #[tactic(auto, using(crate::proofs::All::all_more))]
 fn colours_fit(from: &[Tile], to: &[Tile], list: &[u16], i: u16) -> bool
     requires inside { i < length list.now }
-    requires small { i < 256 }
+    requires small { i < MAX_TILES }
     ensures { result ≡ spec.colours_fit from.now to.now list.now i }
 {
     for j in 0..i + 1 {
@@ -62,7 +51,7 @@ fn colours_fit(from: &[Tile], to: &[Tile], list: &[u16], i: u16) -> bool
 
 fn partner_fits(from: &[Tile], to: &[Tile], list: &[u16], i: u16) -> bool
     requires inside { i < length list.now }
-    requires small { i < 256 }
+    requires small { i < MAX_TILES }
     ensures { result ≡ spec.partner_fits from.now to.now list.now i }
 {
     let partner = list[usize::from(i)];
@@ -73,10 +62,10 @@ fn partner_fits(from: &[Tile], to: &[Tile], list: &[u16], i: u16) -> bool
 
 #[tactic(auto, using(wt_grid::proofs::First::first_more))]
 pub(crate) fn wrong_number(from: &[Tile], to: &[Tile], list: &[u16]) -> Option<usize>
-    requires few { length from.now ≤ 256 }
+    requires few { length from.now ≤ MAX_TILES }
     requires whole { length from.now ≡ length list.now }
     ensures value { result ≡ first_wrong from.now to.now list.now }
-    ensures small { IfSome result (λ i. i < 256) }
+    ensures small { IfSome result (λ i. i < MAX_TILES) }
 {
     for i in 0..from.len() as u16 {
         if !partner_fits(from, to, list, i) {
@@ -86,14 +75,19 @@ pub(crate) fn wrong_number(from: &[Tile], to: &[Tile], list: &[u16]) -> Option<u
     None
 }
 
-/// Whether `list` is a renaming: number i of it is the tile of `to` that tile i of `from` is carried onto, one to one, and there are bijections of the colours of each axis that carry each tile onto its partner (Labbé's equivalence of tile sets).
-/// Where the two sets and the list differ in length, the fault is the least of the three lengths. Else it is the first i whose number is no tile of `to`, came before, or has colours that disagree with a one-to-one pairing made by the tiles 0 to i.
+/// Whether `list` is a renaming: number i of it is the tile of `to` that tile i of `from` is carried onto, one to one,
+/// and there are bijections of the colours of each axis that carry each tile onto its partner (Labbé's equivalence of
+/// tile sets).
+///
+/// Where the two sets and the list differ in length, the fault is the least of the three lengths. Else it is the first
+/// i whose number is no tile of `to`, came before, or has colours that disagree with a one-to-one pairing made by the
+/// tiles 0 to i.
 #[tactic(auto, unfolding(crate::specs::Renaming::renaming_fault))]
 pub fn check_renaming(from: SetRef<'_>, to: SetRef<'_>, list: &[u16]) -> Result<(), usize>
     ensures exact { MatchResult result
         (λ _. spec.renaming_fault from.entry.list.now.tiles to.entry.list.now.tiles list.now ≡ None)
         (λ i. spec.renaming_fault from.entry.list.now.tiles to.entry.list.now.tiles list.now ≡ Some i) }
-    ensures small { IfErr result (λ i. i ≤ 256) }
+    ensures small { IfErr result (λ i. i ≤ MAX_TILES) }
 {
     let from = from.tiles();
     let to = to.tiles();

@@ -9,21 +9,26 @@ use Rattle.wt_grid.specs.Grid.{Grid, across, lines, of_lines}
 abbrev pub piece_at : List Image → ℕ → Image
 piece_at images i = slice_index_or images i (Single 0)
 
+-- the first tile of an image, the left or the lower one
 abbrev pub first_tile : Image → ℕ
 first_tile (Single a) = a
 first_tile (Double a b) = a
 
+-- the last tile of an image: of one tile, that tile
 abbrev pub last_tile : Image → ℕ
 last_tile (Single a) = a
 last_tile (Double a b) = b
 
+-- the image has two tiles
 abbrev pub is_pair : Image → Bool
 is_pair (Single a) = false
 is_pair (Double a b) = true
 
+-- the first tiles of the images of a line
 abbrev pub firsts : List Image → List ℕ → List ℕ
 firsts images q = map (λ i. first_tile (piece_at images i)) q
 
+-- the last tiles of the images of a line
 abbrev pub lasts : List Image → List ℕ → List ℕ
 lasts images q = map (λ i. last_tile (piece_at images i)) q
 

@@ -10,4 +10,5 @@ pub mod Cuts
 pub mod Images
 pub mod Shifts
 pub mod Widths
+pub mod Limits
 pub mod Traces

@@ -2,6 +2,7 @@
 use Rattle.std.specs.Prelude.{ℕ, ◌≡◌, ◌<◌, ◌⊎◌, List, [], ◌∷◌, take, slice_index, Option, None, Some, Bool, true, false, ◌&&◌, ◌||◌, not, nat_lt, if◌then◌else◌}
 use Rattle.wt_grid.specs.First.{or_else}
 
+-- a is less than b
 abbrev pub comes_before : ℕ → ℕ → Bool
 comes_before a b = nat_lt a b
 
@@ -24,9 +25,11 @@ first_in f (x ∷ xs) = or_else (f x) (first_in f xs)
 abbrev pub IsBefore : List ℕ → List ℕ → Type 0
 IsBefore f g = (k : ℕ) × (take k f ≡ take k g) × (slice_index f k < slice_index g k)
 
+-- x is less than n
 abbrev pub is_below : ℕ → ℕ → Bool
 is_below n x = nat_lt x n
 
+-- both hold, or neither does
 abbrev pub agree : Bool → Bool → Bool
 agree a b = if a then b else not b
 

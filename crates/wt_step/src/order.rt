@@ -1,6 +1,5 @@
 // Lists in strict order, and look-ups in them.
-ghost use Rattle.std.specs.Prelude.{◌≡◌, nat_eq};
-ghost use Rattle.std.specs.List.{list_any};
+ghost use Rattle.std.specs.Prelude.{◌≡◌};
 ghost use Rattle.wt_grid.specs.Order.{in_order, leads, is_below, comes_before};
 ghost use Rattle.wt_grid.specs.Pairs.{pairs_follow};
 ghost use Rattle.wt_grid.specs.Pairs as spec;
@@ -26,18 +25,6 @@ fn number_leads(number: u16, after: &[u16]) -> bool
         [] => true,
         [next, ..] => number < *next,
     }
-}
-
-/// Whether a number stands in a list.
-pub fn is_among(number: u16, numbers: &[u16]) -> bool
-    ensures { result ≡ list_any (nat_eq number) numbers.now }
-{
-    for other in numbers {
-        if number == *other {
-            return true;
-        }
-    }
-    false
 }
 
 /// Whether a pair comes before (a, b).

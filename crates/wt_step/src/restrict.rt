@@ -5,9 +5,10 @@ ghost use Rattle.wt_grid.specs.Order.{in_order, leads};
 ghost use Rattle.wt_step.specs.Restrict.{lost_below, losses_follow, loses, IsSorted};
 ghost use Rattle.wt_step.specs.Restrict as spec;
 
-use crate::order::{is_among, numbers_ascend};
+use crate::order::numbers_ascend;
 use crate::rules::agree;
 use crate::{Lost, RawRestrict, StepFault};
+use wt_grid::is_among;
 use wt_refute::check_tile_tree;
 use wt_tile::{Axis, SetRef, is_match, set_fault};
 

@@ -1,6 +1,6 @@
 use Rattle.std.proofs.Common.{◌≡◌, drop, nat_eq}
 use Rattle.std.specs.List.{list_any}
-use Rattle.wt_step.proofs.order.is_among.Given as goal
+use Rattle.wt_grid.proofs.lists.is_among.Given as goal
 
 abbrev pub invariant-loop-other : goal.invariant-loop-other
 invariant-loop-other l = list_any (nat_eq l.number) (drop l.other-index l.numbers) ≡ list_any (nat_eq l.number) l.numbers
