@@ -8,6 +8,7 @@ use Rattle.std.specs.Option.{option_map}
 use Rattle.wt_grid.specs.First.{or_else, first_from}
 use Rattle.wt_grid.specs.Order.{agree}
 use Rattle.wt_grid.specs.Grid.{Grid, cell}
+use Rattle.wt_grid.specs.declared.limits.TheConstants.{MAX_SIDE}
 use Rattle.wt_grid.specs.Images.{is_pair, image_grid, piece_at}
 use Rattle.wt_morphism.specs.declared.image.Morphism.{Morphism}
 use Rattle.wt_morphism.specs.declared.fault.ApplyFault.{ApplyFault}
@@ -20,6 +21,7 @@ abbrev pub piece : Image → Image
 piece (Single a) = Single a
 piece (Double a b) = Double a b
 
+-- what each tile stands for
 abbrev pub pieces : Morphism → List Image
 pieces m = map piece m.table
 
@@ -40,6 +42,7 @@ line_start Two p x y = cell p 0 y
 abbrev pub uneven_at : Morphism → Grid → ℕ → ℕ → Option (ℕ × ℕ)
 uneven_at m p y x = if agree (is_two m (cell p x y)) (is_two m (line_start m.axis p x y)) then None else Some (x, y)
 
+-- the first such cell of row y
 abbrev pub uneven_in : Morphism → Grid → ℕ → Option (ℕ × ℕ)
 uneven_in m p y = first_from (uneven_at m p y) 0 p.width
 
@@ -49,7 +52,7 @@ uneven m p = first_from (uneven_in m p) 0 p.height
 
 -- the rectangle is wider or higher than a pattern may be
 abbrev pub is_too_large : Grid → Bool
-is_too_large g = nat_lt 4096 g.width || nat_lt 4096 g.height
+is_too_large g = nat_lt MAX_SIDE g.width || nat_lt MAX_SIDE g.height
 
 -- why p has no image within the limits of a pattern
 abbrev pub apply_fault : Morphism → Grid → Option ApplyFault

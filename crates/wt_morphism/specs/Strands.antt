@@ -19,6 +19,7 @@ strands two i (suc n) = (record { line = i; second = false }) ∷ (if two i then
 abbrev pub line_is_two : Morphism → Grid → ℕ → Bool
 line_is_two m p i = is_two m (at m.axis p i 0)
 
+-- the lines of the image
 abbrev pub all_strands : Morphism → Grid → List Strand
 all_strands m p = strands (line_is_two m p) 0 (along m.axis p)
 
@@ -31,6 +32,7 @@ tile_of second (Double a b) = if second then b else a
 abbrev pub strand_cell : Morphism → Grid → Strand → ℕ → ℕ
 strand_cell m p s j = tile_of s.second (piece_at m.table (at m.axis p s.line j))
 
+-- line i of the image
 abbrev pub strand_at : List Strand → ℕ → Strand
 strand_at ss i = slice_index_or ss i (record { line = 0; second = false })
 

@@ -8,9 +8,8 @@ use crate::even::uneven;
 use crate::laid::{image_shape, lay};
 use crate::{ApplyFault, CutFault, Morphism};
 use std::alloc::{AllocError, Global};
+use wt_grid::MAX_SIDE;
 use wt_pattern::Pattern;
-
-const MAX_SIDE: usize = 4096;
 
 /// The image of a pattern: the pieces of each cell's image stand along the axis in order. `Uneven` names the
 /// first cell in reading order whose image is longer or shorter than that of the first cell of its line;
@@ -42,8 +41,8 @@ pub fn apply_part(
     w: usize,
     h: usize,
 ) -> Result<Pattern, CutFault>
-    requires wide { (1 ≤ w) × (w ≤ 4096) }
-    requires high { (1 ≤ h) × (h ≤ 4096) }
+    requires wide { (1 ≤ w) × (w ≤ MAX_SIDE) }
+    requires high { (1 ≤ h) × (h ≤ MAX_SIDE) }
     ensures part { IfOk result (λ q. q ≡ part (image m.now p.now) 0 0 (min w (image m.now p.now).width) (min h (image m.now p.now).height)) }
     ensures even { MatchResult result (λ q. spec.uneven m.now p.now ≡ None) (λ e. IsCutRefusal (spec.uneven m.now p.now) e) }
 {

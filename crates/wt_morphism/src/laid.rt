@@ -11,20 +11,23 @@ ghost use Rattle.wt_morphism.specs.Strands as strand_words;
 use crate::even::{image_at, is_two};
 use crate::{Image, Morphism};
 use std::alloc::{AllocError, Global};
+use wt_grid::MAX_SIDE;
 use wt_pattern::Pattern;
 use wt_tile::Axis;
 
 /// A line of an image: the first or the second line that a line of the pattern stands for.
 #[derive(Clone, Copy)]
 pub struct Strand {
+    /// The line of the pattern.
     pub line: usize,
+    /// Whether this is the second line that it stands for.
     pub second: bool,
 }
 
 /// How many lines the pattern has along the axis.
 fn along(axis: Axis, p: &Pattern) -> usize
     ensures value { result ≡ grid.along axis p.now }
-    ensures few { result ≤ 4096 }
+    ensures few { result ≤ MAX_SIDE }
     ensures wide { 0 < grid.across axis p.now }
 {
     match axis {
@@ -58,7 +61,7 @@ fn line_is_two(m: &Morphism, p: &Pattern, i: usize) -> bool
 #[tactic(auto, using(crate::proofs::Strands::strands_more))]
 pub fn count_lines(m: &Morphism, p: &Pattern) -> usize
     ensures value { result ≡ length (all_strands m.now p.now) }
-    ensures few { result ≤ 8192 }
+    ensures few { result ≤ 2 * MAX_SIDE }
 {
     let mut count = 0usize;
     for i in 0..along(m.axis, p) {
@@ -150,10 +153,10 @@ pub fn lay(
 ) -> Result<Vec<u16>, AllocError>
     requires shape { IsShape p.now }
     requires some { 1 ≤ w }
-    requires low { w ≤ 4096 }
+    requires low { w ≤ MAX_SIDE }
     requires wide { w ≤ (image m.now p.now).width }
     requires high { h ≤ (image m.now p.now).height }
-    requires few { h ≤ 4096 }
+    requires few { h ≤ MAX_SIDE }
     requires rows { 1 ≤ h }
     ensures shape { IfOk result (λ cells. IsShape (record { width = w; height = h; cells = cells.items })) }
     ensures cells { IfOk result (λ cells. cells.items ≡ (part (image m.now p.now) 0 0 w h).cells) }

@@ -7,8 +7,11 @@ use wt_tile::Axis;
 /// Two neighbours that don't match: the cell at (x, y) and the next one along the axis, to the right or above.
 #[derive(Clone, Copy, Debug, PartialEq, Eq)]
 pub struct Fault {
+    /// The axis along which they are neighbours.
     pub axis: Axis,
+    /// The column of the first of them, counted from 0.
     pub x: usize,
+    /// Its row, counted from 0 at the bottom.
     pub y: usize,
 }
 

@@ -5,8 +5,7 @@ ghost use Rattle.wt_pattern.specs.Shape.{shape_fault, IsShape};
 
 use crate::ShapeFault;
 use std::marker::Model;
-
-const MAX_SIDE: usize = 4096;
+use wt_grid::MAX_SIDE;
 
 /// A rectangle of 1 to 4096 by 1 to 4096 numbers of tiles. Row 0 is the bottom row, and cells are kept
 /// in reading order: row by row, each from left to right. Seen by contracts as a `Grid`.

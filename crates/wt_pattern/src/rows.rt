@@ -1,5 +1,5 @@
 // Rows of four colour names, and the tiles that they stand for.
-ghost use Rattle.std.specs.Prelude.{◌≡◌, ◌+◌, ◌<◌, ◌≤◌, MatchOption, OnOk, IfOk, Ok, true, false, length, vec_len};
+ghost use Rattle.std.specs.Prelude.{◌≡◌, ◌+◌, ◌<◌, ◌≤◌, ◌^◌, MatchOption, OnOk, IfOk, Ok, true, false, length, vec_len};
 ghost use Rattle.wt_tile.specs.Sets.{is_among};
 ghost use Rattle.wt_text.specs.Words.{tokens};
 ghost use Rattle.wt_line.specs.declared.faults.What.{What};
@@ -12,6 +12,7 @@ ghost use Rattle.wt_pattern.specs.Numbered.{four_names, row_words, row_named, ne
 ghost use Rattle.wt_line.specs.Left.{tokens_left, lines_left, ReadsPlace};
 
 use std::alloc::{AllocError, Global};
+use wt_grid::MAX_TILES;
 use wt_line::{LineFault, Place, Rest, TextFault, line_end, next_line, next_token, placed};
 use wt_seq::Seq;
 use wt_tile::{Name, Tile, TileList};
@@ -93,7 +94,7 @@ fn place_of(name: &[u8], names: &[Name]) -> Option<usize>
 #[tactic(auto, using(crate::proofs::Names::of_name, wt_names::proofs::Ordered::place_new))]
 fn number(names: &mut Vec<Name>, name: &[u8]) -> Result<u16, AllocError>
     requires name { is_name name.now ≡ true }
-    requires few { vec_len names.old < 65536 }
+    requires few { vec_len names.old < 2 ^ 16 }
     ensures value { IfOk result (λ n. n ≡ place name.now names.old.items) }
     ensures named { OnOk result (names.new.items ≡ seen_after names.old.items name.now) }
     ensures few { OnOk result (vec_len names.new ≤ vec_len names.old + 1) }
@@ -113,8 +114,8 @@ fn numbered(
     row: Row<'_>,
 ) -> Result<Tile, AllocError>
     requires names { RowFits (row_words row) }
-    requires few1 { vec_len names1.old + 1 < 65536 }
-    requires few2 { vec_len names2.old + 1 < 65536 }
+    requires few1 { vec_len names1.old + 1 < 2 ^ 16 }
+    requires few2 { vec_len names2.old + 1 < 2 ^ 16 }
     ensures value { IfOk result (λ t. t ≡ next_tile names1.old.items names2.old.items (row_named row.entry)) }
     ensures named1 { OnOk result (names1.new.items ≡ seen_after (seen_after names1.old.items row.entry.right.now) row.entry.left.now) }
     ensures named2 { OnOk result (names2.new.items ≡ seen_after (seen_after names2.old.items row.entry.top.now) row.entry.bottom.now) }
@@ -139,7 +140,7 @@ pub fn tiles_at(
     count: usize,
     place: Place<'_>,
 ) -> Result<(TileList, Place<'_>), TextFault>
-    requires { count ≤ 256 }
+    requires { count ≤ MAX_TILES }
     ensures { ReadsPlace (tile_rows count) result place.entry }
 {
     let mut tiles = Vec::new(alloc);

@@ -12,18 +12,17 @@ use crate::Pattern;
 use crate::cells::{rows_at, stacked};
 use crate::rows::tiles_at;
 use std::alloc::Global;
+use wt_grid::{MAX_SIDE, MAX_TILES};
 use wt_line::{
     LineFault, Place, Rest, TextFault, What, line_end, next_line, next_token, number, placed,
     text_end, word,
 };
 use wt_tile::TileList;
 
-const MAX_SIDE: u64 = 4096;
-
 /// A list of so many tiles, from a text that is its rows and no more.
 #[tactic(auto, unfolding(wt_text::specs::Readers::whole_text))]
 pub fn read_set(alloc: Global, bytes: &[u8], tiles: usize) -> Result<TileList, TextFault>
-    requires { tiles ≤ 256 }
+    requires { tiles ≤ MAX_TILES }
     ensures { ReadsText (λ list. list) result (whole_text (tile_rows tiles) (lines bytes.now)) }
 {
     let (list, place) = tiles_at(alloc, tiles, Place::new(bytes))?;
@@ -74,7 +73,7 @@ fn side_at(what: What, rest: Rest<'_>) -> Result<(Result<usize, What>, Rest<'_>)
     if value == 0 {
         return Err(LineFault::Wrong);
     }
-    if value <= MAX_SIDE {
+    if value <= MAX_SIDE as u64 {
         Ok((Ok(value as usize), rest))
     } else {
         Ok((Err(what), rest))

@@ -18,6 +18,7 @@ behind Two t = t.south
 abbrev pub fits : Axis → Tile → Tile → Bool
 fits axis a b = nat_eq (ahead axis a) (behind axis b)
 
+-- a tile whose edges all have colour 0
 abbrev pub blank : Tile
 blank = record { east = 0; north = 0; west = 0; south = 0 }
 
@@ -28,5 +29,3 @@ tile_at ts a = slice_index_or ts a blank
 -- the tile b of the list may stand next to its tile a along the axis
 unfoldable pub matches : List Tile → Axis → ℕ → ℕ → Bool
 matches ts axis a b = fits axis (tile_at ts a) (tile_at ts b)
-
--- The axes of rectangles, as those of tiles.

@@ -59,7 +59,7 @@ impl Colours {
         ensures held { Contains self.old edge → OnOk result (self.new ≡ self.old) }
         ensures added { (Contains self.old edge → ⊥) → OnOk result (self.new ≡ self.old ++ edge ∷ []) }
         ensures numbering { IsNumbering self.new }
-        ensures too_many { IsErrOf result ColourFault.TooMany ↔ ((length self.old ≡ 512) × (Contains self.old edge → ⊥)) }
+        ensures too_many { IsErrOf result ColourFault.TooMany ↔ ((length self.old ≡ MAX_COLOURS) × (Contains self.old edge → ⊥)) }
         ensures unchanged { OnErr result (self.new ≡ self.old) }
     {
         if self.is_past(edge) {
@@ -73,7 +73,7 @@ impl Colours {
 
     /// Whether the edge is new and no more are taken.
     fn is_past(&self, edge: Edge) -> bool
-        ensures { IsTrue result ↔ ((length self.now ≡ 512) × (Contains self.now edge → ⊥)) }
+        ensures { IsTrue result ↔ ((length self.now ≡ MAX_COLOURS) × (Contains self.now edge → ⊥)) }
     {
         self.edges.len() == MAX_COLOURS && !self.edges.contains(&edge)
     }

@@ -8,16 +8,22 @@ use crate::{Axis, Tile};
 /// The edge of a fused tile: one colour, or two in a row. A pair is a colour of its own, different from every single colour.
 #[derive(Clone, Copy, Debug, PartialEq, Eq, Hash)]
 pub enum Edge {
+    /// This colour alone.
     One(u16),
+    /// The first colour, and the second right of it or above it.
     Two(u16, u16),
 }
 
 /// The four edges of a fused tile.
 #[derive(Clone, Copy, Debug, PartialEq, Eq)]
 pub struct Fused {
+    /// The right edge.
     pub east: Edge,
+    /// The top edge.
     pub north: Edge,
+    /// The left edge.
     pub west: Edge,
+    /// The bottom edge.
     pub south: Edge,
 }
 

@@ -8,6 +8,7 @@ use crate::matching::{is_match, tile_at};
 use crate::{Axis, SetFault, Tile, TileList};
 use std::alloc::{AllocError, Global};
 use std::marker::Model;
+use wt_grid::MAX_TILES;
 
 /// A list that is known to be a tile set, borrowed: whoever holds one need not test it again.
 #[derive(Clone, Copy)]
@@ -46,7 +47,7 @@ pub fn set_fault(list: &TileList) -> Option<SetFault>
     if tiles.is_empty() {
         return Some(SetFault::Empty);
     }
-    if tiles.len() > 256 {
+    if tiles.len() > MAX_TILES {
         return Some(SetFault::TooMany);
     }
     if let Some(tile) = colour_fault(tiles, names1.len(), names2.len()) {
@@ -104,7 +105,7 @@ impl<'a> SetRef<'a> {
     pub fn tiles(self) -> &'a [Tile]
         ensures value { result.now ≡ self.entry.list.now.tiles }
         ensures some { 0 < length result.now }
-        ensures few { length result.now ≤ 256 }
+        ensures few { length result.now ≤ MAX_TILES }
     {
         self.list.tiles.as_slice()
     }
@@ -114,7 +115,7 @@ impl<'a> SetRef<'a> {
     pub fn len(self) -> usize
         ensures value { result ≡ length self.entry.list.now.tiles }
         ensures some { 0 < result }
-        ensures few { result ≤ 256 }
+        ensures few { result ≤ MAX_TILES }
     {
         self.list.tiles.as_slice().len()
     }

@@ -10,9 +10,13 @@ use wt_seq::Seq;
 /// north and south colours to axis 2, and the two are separate.
 #[derive(Clone, Copy, Debug, PartialEq, Eq)]
 pub struct Tile {
+    /// The number of the right edge's colour, on axis 1.
     pub east: u16,
+    /// The number of the top edge's colour, on axis 2.
     pub north: u16,
+    /// The number of the left edge's colour, on axis 1.
     pub west: u16,
+    /// The number of the bottom edge's colour, on axis 2.
     pub south: u16,
 }
 
@@ -20,8 +24,11 @@ pub struct Tile {
 /// Any such list; one without a fault is a tile set.
 #[derive(Drop)]
 pub struct TileList {
+    /// The tiles: tile i at place i.
     pub tiles: Seq<Tile>,
+    /// The names of the colours of axis 1.
     pub names1: Seq<Name>,
+    /// The names of the colours of axis 2.
     pub names2: Seq<Name>,
 }
 
@@ -49,9 +56,20 @@ pub enum SetFault {
     /// There are more than 256 tiles.
     TooMany,
     /// The first tile with a colour that isn't numbered by first coming, or has no name.
-    NoColour { tile: usize },
+    NoColour {
+        /// The number of this tile.
+        tile: usize,
+    },
     /// Two names of this axis are equal, or there are more of them than colours.
-    Names { axis: Axis },
+    Names {
+        /// The axis of the names; axis 1 comes first.
+        axis: Axis,
+    },
     /// Two tiles are equal: the least second of such tiles, and the least first for it.
-    Repeated { first: usize, second: usize },
+    Repeated {
+        /// Where the tile stands first.
+        first: usize,
+        /// Where it stands again.
+        second: usize,
+    },
 }
