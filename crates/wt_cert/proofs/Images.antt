@@ -8,7 +8,8 @@ use Rattle.wt_text.specs.Words.{tokens}
 use Rattle.wt_text.specs.Spellings.{IsNotEmpty}
 use Rattle.wt_text.specs.Readers.{◌>>=◌, pair, mapped}
 use Rattle.wt_text.proofs.Split.{some_tokens}
-use Rattle.wt_cert.specs.LineForms.{small, image_of, image_behind}
+use Rattle.wt_line.specs.Limits.{small}
+use Rattle.wt_cert.specs.LineForms.{image_of, image_behind}
 
 pub one_image : (u : Result ℕ What) (more : Bool) (line : List ℕ) → more ≡ false → image_behind u (left more line) ≡ Some (mapped Single u, [])
 one_image u true line e = absurd cc

@@ -19,7 +19,8 @@ use Rattle.wt_text.specs.Spellings.{IsClean, AllFit, IsNotEmpty, number_spelling
 use Rattle.wt_text.proofs.Numbers.{number_found, number_again, decimal_clean}
 use Rattle.wt_text.proofs.Formats.{IsFormat, IsLine, bind_some, read_is, pair_ok, within_ok, within_again, number_format, both_format, behind_format, whole_line}
 use Rattle.wt_text.proofs.Last.{IsLast, both_last, behind_last, whole_last, word_format, numbers_last}
-use Rattle.wt_cert.specs.LineForms.{small, radius, axis, side, alone_form, count_form, numbers_form, version_form, step_count, steps_form, marker_head, restrict_head, Head, kind_of_step, head_form, allowed_form, pair_form, may_cite, radius_in, refuted_form, lost_form, image_of, image_behind, image_in, image_form, end_form}
+use Rattle.wt_line.specs.Limits.{small}
+use Rattle.wt_cert.specs.LineForms.{radius, axis, side, alone_form, count_form, numbers_form, version_form, step_count, steps_form, marker_head, restrict_head, Head, kind_of_step, head_form, allowed_form, pair_form, may_cite, radius_in, refuted_form, lost_form, image_of, image_behind, image_in, image_form, end_form}
 use Rattle.wt_cert.specs.Spelling.{count_tokens, numbers_tokens, version_word, axis_digit, side_word, pair_tokens, radius_tokens, image_tokens}
 use Rattle.wt_cert.specs.Fits.{IsSmall, AreWritableNumbers, IsWritablePair, IsWritableRadius, IsWritableImage}
 use Rattle.wt_cert.specs.Trees.{tree_spelling, IsWritableTree}

@@ -10,7 +10,8 @@ use Rattle.wt_line.specs.Faults.{IsWrong, LineFails}
 use Rattle.wt_chain.specs.declared.raw.Version.{Version}
 use Rattle.wt_refute.specs.Refutation.{Refutation}
 use Rattle.wt_text.specs.Readers.{after, pair, judged, value_behind, both, whole}
-use Rattle.wt_cert.specs.LineForms.{small, axis, Head, kind_of_step, head_form, may_cite, radius_in, refuted_form, lost_form}
+use Rattle.wt_line.specs.Limits.{small}
+use Rattle.wt_cert.specs.LineForms.{axis, Head, kind_of_step, head_form, may_cite, radius_in, refuted_form, lost_form}
 use Rattle.wt_cert.specs.Trees.{tree_to_end}
 
 pub head_fails : (e : LineFault) (version : Version) (k : ℕ) (r : Result Head What) (ts r1 r2 r3 : List (List ℕ)) → after (codes "step") ts ≡ Some r1 → after (decimal k) r1 ≡ Some r2 → kind_of_step version r2 ≡ Some (r, r3) → IsWrong e r3

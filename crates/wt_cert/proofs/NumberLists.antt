@@ -13,8 +13,8 @@ use Rattle.wt_text.specs.Spellings.{IsNotEmpty}
 use Rattle.wt_text.specs.Readers.{◌>>=◌, within, value_in_front, numbers_to, counted_numbers}
 use Rattle.wt_text.proofs.Formats.{bind_some, read_is}
 use Rattle.wt_text.proofs.Split.{some_tokens}
-use Rattle.wt_cert.specs.LineForms.{small}
-use Rattle.wt_cert.specs.Seen.{with_number}
+use Rattle.wt_line.specs.Limits.{small}
+use Rattle.wt_line.specs.Given.{with_number}
 
 -- numbers in front of those that are still to be read
 abbrev pub led : Result (List ℕ) What → Option (Result (List ℕ) What) → Option (Result (List ℕ) What)

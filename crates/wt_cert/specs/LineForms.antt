@@ -8,6 +8,8 @@ use Rattle.wt_grid.specs.declared.axis.Axis.TheVariants.{One, Two}
 use Rattle.wt_grid.specs.declared.axis.Axis.{Axis}
 use Rattle.std.specs.Fmt.{decimal}
 use Rattle.wt_line.specs.declared.faults.What.{What}
+use Rattle.wt_line.specs.Limits.{small}
+use Rattle.wt_line.specs.declared.limits.TheConstants.{MOST}
 use Rattle.wt_line.specs.declared.faults.What.TheVariants.{Steps, Radius, Tiles, Pairs, Expansion, Number}
 use Rattle.wt_refute.specs.Refutation.{Refutation}
 use Rattle.wt_chain.specs.declared.raw.Version.{Version}
@@ -15,10 +17,6 @@ use Rattle.wt_chain.specs.declared.raw.Version.TheVariants as versions
 use Rattle.wt_text.specs.Words.{number}
 use Rattle.wt_text.specs.Readers.{◌>>=◌, pair, mapped, LineFault, within, number_to, either_word, given, seen_value, Either, first, either_behind, value_behind, both, whole, counted_numbers}
 use Rattle.wt_cert.specs.Trees.{tree_to_end}
-
--- a number that has no limit of its own
-abbrev pub small : List (List ℕ) → Option (Result ℕ What × List (List ℕ))
-small = number_to 65535 Number
 
 -- a radius, at most 4
 abbrev pub radius : List (List ℕ) → Option (Result ℕ What × List (List ℕ))
@@ -42,7 +40,7 @@ count_form w most what = whole (value_behind w (number_to most what))
 
 -- a word, a count, and so many numbers
 unfoldable pub numbers_form : List ℕ → List (List ℕ) → Result (List ℕ) (LineFault What)
-numbers_form w = whole (value_behind w (counted_numbers 256 Tiles 65535 Number))
+numbers_form w = whole (value_behind w (counted_numbers 256 Tiles MOST Number))
 
 -- ---- certificate 1, or certificate 2
 

@@ -49,12 +49,6 @@ refuted_view r = (r.axis, (r.a, (r.b, (r.radius, refutation r.tree))))
 abbrev pub lost_view : Lost → ℕ × Refutation
 lost_view x = (x.tile, refutation x.tree)
 
--- one number more, where no number so far is past its limit
-abbrev pub with_number : {W : Type 0} → Result (List ℕ) W → Result ℕ W → Result (List ℕ) W
-with_number (Ok ns) (Ok n) = Ok (ns ++ n ∷ [])
-with_number (Ok ns) (Err w) = Err w
-with_number (Err w) r = Err w
-
 -- the reader of the block of the step that a state gives
 abbrev pub link_at_step : Version → ℕ × ℕ → ℕ × List Line → Result (RawLink × (ℕ × List Line)) (TextFault What)
 link_at_step version s = link_part version s.0 s.1

@@ -14,6 +14,7 @@ NotRead Wrong read = read ≡ None
 NotRead (Past what) read = ⊥
 NotRead OutOfMemory read = Unit {0}
 
+-- what the reader of tokens answers
 abbrev pub ReadsTokens : {X Y : Type 0} → (X → Y) → Result X LineFault → Option Y → Type 0
 ReadsTokens view (Ok x) read = read ≡ Some (view x)
 ReadsTokens view (Err e) read = NotRead e read
@@ -25,6 +26,7 @@ IsWrong Wrong [] = ⊥
 IsWrong (Past what) ts = ⊥
 IsWrong OutOfMemory ts = ⊥
 
+-- a line that can't be read
 abbrev pub LineFails : {Y : Type 0} → LineFault → Result Y (words.LineFault What) → Type 0
 LineFails Wrong read = read ≡ Err words.wrong
 LineFails (Past what) read = read ≡ Err (words.past what)
@@ -35,6 +37,7 @@ abbrev pub ReadsLine : {X Y : Type 0} → (X → Y) → Result X LineFault → R
 ReadsLine view (Ok x) read = read ≡ Ok (view x)
 ReadsLine view (Err e) read = LineFails e read
 
+-- a text that can't be read
 abbrev pub TextFails : {Y : Type 0} → TextFault → Result Y (words.TextFault What) → Type 0
 TextFails (text.Syntax n) read = read ≡ Err (words.syntax_at n)
 TextFails (text.Limit what n) read = read ≡ Err (words.limit_at what n)
@@ -45,12 +48,14 @@ abbrev pub ReadsText : {X Y : Type 0} → (X → Y) → Result X TextFault → R
 ReadsText view (Ok x) read = read ≡ Ok (view x)
 ReadsText view (Err e) read = TextFails e read
 
+-- what was read of the line with this number
 abbrev pub at_line : {X : Type 0} → ℕ → Result X LineFault → Result X TextFault
 at_line n (Ok x) = Ok x
 at_line n (Err Wrong) = Err (text.Syntax n)
 at_line n (Err (Past what)) = Err (text.Limit what n)
 at_line n (Err OutOfMemory) = Err text.OutOfMemory
 
+-- a line with these bytes, which a newline ends
 abbrev pub ended_line : List ℕ → Line
 ended_line text = record { text = text; ended = true }
 
@@ -59,6 +64,7 @@ abbrev pub NoLine : List Line → Type 0
 NoLine [] = Unit {0}
 NoLine (l ∷ ls) = l.ended ≡ false
 
+-- a syntax fault at line n, where no line is left that is ended
 abbrev pub IsSyntax : ℕ → TextFault → List Line → Type 0
 IsSyntax n (text.Syntax m) ls = (m ≡ n) × NoLine ls
 IsSyntax n (text.Limit what m) ls = ⊥

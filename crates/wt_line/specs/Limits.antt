@@ -1,5 +1,7 @@
--- The words of the limits.
-use Rattle.std.specs.Prelude.{ℕ, List, codes}
+-- The words of the limits, and the limit of a number that has none of its own.
+use Rattle.std.specs.Prelude.{ℕ, List, Option, Result, codes}
+use Rattle.wt_text.specs.Readers.{number_to}
+use Rattle.wt_line.specs.declared.limits.TheConstants.{MOST}
 use Rattle.wt_line.specs.declared.faults.What.{What}
 use Rattle.wt_line.specs.declared.faults.What.TheVariants.{Steps, Radius, Tiles, Pairs, Nodes, Depth, Expansion, Number, Width, Height, Power, Turns, Regions, Planes, Golden, Rows}
 
@@ -21,3 +23,7 @@ limit_word Regions = codes "regions"
 limit_word Planes = codes "planes"
 limit_word Golden = codes "golden"
 limit_word Rows = codes "rows"
+
+-- a number that has no limit of its own: at most 65,535
+abbrev pub small : List (List ℕ) → Option (Result ℕ What × List (List ℕ))
+small = number_to MOST Number

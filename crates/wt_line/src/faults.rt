@@ -9,7 +9,7 @@ ghost use Rattle.wt_line.specs.Limits.{limit_word};
 use std::alloc::{AllocError, AllocFailed};
 
 /// The limits, by the words that name them in a refusal.
-#[derive(Clone, Copy, PartialEq, Eq)]
+#[derive(Clone, Copy, Debug, PartialEq, Eq)]
 pub enum What {
     /// The steps of a chain, or the levels of a search.
     Steps,
@@ -72,7 +72,7 @@ impl What {
 }
 
 /// What is wrong with a line, whatever its number.
-#[derive(Clone, Copy, PartialEq, Eq)]
+#[derive(Clone, Copy, Debug, PartialEq, Eq)]
 pub enum LineFault {
     /// It has no right form.
     Wrong,
@@ -83,7 +83,7 @@ pub enum LineFault {
 }
 
 /// What is wrong with a text: its first line that has no right form or passes a limit.
-#[derive(Clone, Copy, PartialEq, Eq)]
+#[derive(Clone, Copy, Debug, PartialEq, Eq)]
 pub enum TextFault {
     /// The line of this number is no right next line.
     Syntax {

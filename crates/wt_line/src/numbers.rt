@@ -1,10 +1,14 @@
 // Numbers in a line.
-ghost use Rattle.std.specs.Prelude.{◌≡◌, ◌≤◌, ◌<◌, IfOk};
+ghost use Rattle.std.specs.Prelude.{◌≡◌, ◌≤◌, ◌<◌, IfOk, OnErr, IsErrOf};
 ghost use Rattle.wt_text.specs.Words as words;
+ghost use Rattle.wt_text.specs.Readers.{mapped};
 ghost use Rattle.wt_text.specs.Readers as readers;
-ghost use Rattle.wt_line.specs.Given.{left, held};
+ghost use Rattle.wt_line.specs.declared.faults.LineFault.TheVariants.{OutOfMemory};
+ghost use Rattle.wt_line.specs.Given.{left, held, with_number};
+ghost use Rattle.wt_line.specs.Limits.{small};
 ghost use Rattle.wt_line.specs.Left.{room_left, ReadsRest};
 
+use crate::MOST;
 use crate::faults::{LineFault, What};
 use crate::tokens::{Rest, next_token};
 use wt_io::NumberFault;
@@ -43,5 +47,39 @@ pub fn number_to(
         Ok((Ok(value as u32), rest))
     } else {
         Ok((Err(what), rest))
+    }
+}
+
+/// A number that has no limit of its own, and what is left of the line: at most `MOST`, past it the word `number`.
+///
+/// `Wrong` comes exactly where no token is left or the next one is no number.
+pub fn small_number(rest: Rest<'_>) -> Result<(Result<u16, What>, Rest<'_>), LineFault>
+    ensures fewer { IfOk result (λ x. room_left x.1 < room_left rest.entry) }
+    ensures read { ReadsRest small result rest.entry }
+{
+    let (value, rest) = number_to(u32::from(MOST), What::Number, rest)?;
+    match value {
+        Ok(value) => Ok((Ok(value as u16), rest)),
+        Err(what) => Ok((Err(what), rest)),
+    }
+}
+
+/// One number more behind those before it; else the limit that the first of them has passed.
+pub fn and_number(
+    front: Result<Vec<u16>, What>,
+    number: Result<u16, What>,
+) -> Result<Result<Vec<u16>, What>, LineFault>
+    ensures value { IfOk result (λ r. mapped (λ v. v.items) r ≡ with_number (mapped (λ v. v.items) front) number) }
+    ensures fault { OnErr result (IsErrOf result OutOfMemory) }
+{
+    match front {
+        Err(what) => Ok(Err(what)),
+        Ok(mut numbers) => match number {
+            Err(what) => Ok(Err(what)),
+            Ok(number) => {
+                numbers.push(number)?;
+                Ok(Ok(numbers))
+            }
+        },
     }
 }

@@ -10,24 +10,25 @@ use Rattle.wt_text.specs.Spellings.{IsClean, AllFit, IsNotEmpty, number_spelling
 use Rattle.wt_text.proofs.Formats.{IsFormat, IsLine, number_format, fit_line, bind_some, read_is, joined_ok}
 use Rattle.wt_text.proofs.Texts.{IsPart, line_part, many_part}
 use Rattle.wt_pattern.specs.TileRows.{no_state}
-use Rattle.wt_pattern.specs.PatternRows.{times, cell_word, cells_form, cells_rows, cells_spelling, from_bottom}
+use Rattle.wt_line.specs.Limits.{small}
+use Rattle.wt_pattern.specs.PatternRows.{times, cells_form, cells_rows, cells_spelling, from_bottom}
 
 -- so many numbers, each within its limit
 abbrev pub CellsFit : ℕ → List ℕ → Type 0
 CellsFit width ns = (length ns ≡ width) × AllFit (λ n. n ≤ 65535) ns
 
-cell_format : IsFormat cell_word number_spelling (λ n. n ≤ 65535)
+cell_format : IsFormat small number_spelling (λ n. n ≤ 65535)
 cell_format = number_format 65535 Number (omega arith)
 
-cells_found : (n : ℕ) (ts : List (List ℕ)) (x : List ℕ) (rest : List (List ℕ)) → times cell_word n ts ≡ Some (Ok x, rest) → (ts ≡ cells_spelling x ++ rest) × CellsFit n x
+cells_found : (n : ℕ) (ts : List (List ℕ)) (x : List ℕ) (rest : List (List ℕ)) → times small n ts ≡ Some (Ok x, rest) → (ts ≡ cells_spelling x ++ rest) × CellsFit n x
 cells_found zero ts x rest e =
     let p = read_is {X = Result (List ℕ) What} (Ok []) (Ok x) ts rest e in
     let same : [] ≡ x = cc p.0 in
     let P : List ℕ → Type 0 = λ y. (ts ≡ cells_spelling y ++ rest) × CellsFit zero y in
     subst P same (p.1, (refl, tt))
 cells_found (suc n) ts x rest e =
-    let a = bind_some (cell_word ts) _ (Ok x, rest) e in
-    let b = bind_some (times cell_word n a.0.1) _ (Ok x, rest) a.2 in
+    let a = bind_some (small ts) _ (Ok x, rest) e in
+    let b = bind_some (times small n a.0.1) _ (Ok x, rest) a.2 in
     let p = read_is (value_in_front a.0.0 b.0.0) (Ok x) b.0.1 rest b.2 in
     let j = joined_ok a.0.0 b.0.0 x p.0 in
     let f = cell_format.found ts j.0 a.0.1 (a.1 ∙ ap (λ (r : Result ℕ What). Some (r, a.0.1)) j.3) in
@@ -35,7 +36,7 @@ cells_found (suc n) ts x rest e =
     let P : List ℕ → Type 0 = λ y. (ts ≡ cells_spelling y ++ rest) × CellsFit (suc n) y in
     subst P (sym j.2) (f.0 ∙ ap (λ (r : List (List ℕ)). decimal j.0 ∷ r) h.0, (ap suc h.1.0, (f.1, h.1.1)))
 
-cells_again : (n : ℕ) (x : List ℕ) (rest : List (List ℕ)) → CellsFit n x → times cell_word n (cells_spelling x ++ rest) ≡ Some (Ok x, rest)
+cells_again : (n : ℕ) (x : List ℕ) (rest : List (List ℕ)) → CellsFit n x → times small n (cells_spelling x ++ rest) ≡ Some (Ok x, rest)
 cells_again zero [] rest fits = refl
 cells_again zero (c ∷ cs) rest fits = let e : suc (length cs) ≡ 0 = fits.0 in absurd (omega (arith, e))
 cells_again (suc n) [] rest fits = let e : 0 ≡ suc n = fits.0 in absurd (omega (arith, e))
@@ -47,7 +48,7 @@ cells_clean : (x : List ℕ) → AllFit (λ n. n ≤ 65535) x → AllFit IsClean
 cells_clean [] fits = tt
 cells_clean (c ∷ cs) fits = ((cell_format.clean c fits.0).0, cells_clean cs fits.1)
 
-cells_format : (n : ℕ) → IsFormat (times cell_word n) cells_spelling (CellsFit n)
+cells_format : (n : ℕ) → IsFormat (times small n) cells_spelling (CellsFit n)
 cells_format n = record { found = cells_found n; again = cells_again n; clean = λ x fits. cells_clean x fits.1 }
 
 cells_some : (n : ℕ) → 1 ≤ n → (x : List ℕ) → CellsFit n x → IsNotEmpty (cells_spelling x)

@@ -6,8 +6,9 @@ use Rattle.wt_line.specs.declared.faults.LineFault.{LineFault}
 use Rattle.wt_line.specs.declared.faults.LineFault.TheVariants.{Wrong, Past, OutOfMemory}
 use Rattle.wt_line.specs.Faults.{NotRead, LineFails}
 use Rattle.wt_text.specs.Readers.{◌>>=◌, value_in_front, judge}
-use Rattle.wt_pattern.specs.PatternRows.{times, cell_word}
-use Rattle.wt_pattern.specs.Cells.{one_more}
+use Rattle.wt_line.specs.Limits.{small}
+use Rattle.wt_pattern.specs.PatternRows.{times}
+use Rattle.wt_line.specs.Given.{with_number}
 
 abbrev pub Tokens : Type 0
 Tokens = List (List ℕ)
@@ -23,15 +24,15 @@ behind_cells front None = None
 behind_cells front (Some x) = Some (led front x.0, x.1)
 
 abbrev pub cells_left : ℕ → Tokens → Option (Result (List ℕ) What × Tokens)
-cells_left n ts = times cell_word n ts
+cells_left n ts = times small n ts
 
-led_joined : (front : Result (List ℕ) What) (a : Result ℕ What) (r : Result (List ℕ) What) → led front (value_in_front a r) ≡ led (one_more front a) r
+led_joined : (front : Result (List ℕ) What) (a : Result ℕ What) (r : Result (List ℕ) What) → led front (value_in_front a r) ≡ led (with_number front a) r
 led_joined (Ok xs) (Ok a) (Ok ys) = ap (λ (l : List ℕ). Ok l) (sym (append_assoc xs (a ∷ []) ys))
 led_joined (Ok xs) (Ok a) (Err w) = refl
 led_joined (Ok xs) (Err v) r = refl
 led_joined (Err v) a r = refl
 
-regroup : (front : Result (List ℕ) What) (a : Result ℕ What) (r : Option (Result (List ℕ) What × Tokens)) → behind_cells front (r >>= λ x. Some (value_in_front a x.0, x.1)) ≡ behind_cells (one_more front a) r
+regroup : (front : Result (List ℕ) What) (a : Result ℕ What) (r : Option (Result (List ℕ) What × Tokens)) → behind_cells front (r >>= λ x. Some (value_in_front a x.0, x.1)) ≡ behind_cells (with_number front a) r
 regroup front a None = refl
 regroup front a (Some x) = ap (λ (y : Result (List ℕ) What). Some (y, x.1)) (led_joined front a x.0)
 
@@ -50,14 +51,14 @@ begins n ts = let k : n - 0 ≡ n = omega arith in rw k (go (cells_left n ts))
     go None = refl
     go (Some x) = ap (λ (y : Result (List ℕ) What). Some (y, x.1)) (same x.0)
 
-pub goes_on : (front : Result (List ℕ) What) (count i : ℕ) (ts : Tokens) (a : Result ℕ What) (rest : Tokens) (total : Option (Result (List ℕ) What × Tokens)) → i < count → cell_word ts ≡ Some (a, rest)
-    → behind_cells front (cells_left (count - i) ts) ≡ total → behind_cells (one_more front a) (cells_left (count - (i + 1)) rest) ≡ total
+pub goes_on : (front : Result (List ℕ) What) (count i : ℕ) (ts : Tokens) (a : Result ℕ What) (rest : Tokens) (total : Option (Result (List ℕ) What × Tokens)) → i < count → small ts ≡ Some (a, rest)
+    → behind_cells front (cells_left (count - i) ts) ≡ total → behind_cells (with_number front a) (cells_left (count - (i + 1)) rest) ≡ total
 goes_on front count i ts a rest total lt h so_far =
     let k : count - i ≡ suc (count - (i + 1)) = omega arith in
-    let one : behind_cells front (cells_left (count - i) ts) ≡ behind_cells (one_more front a) (cells_left (count - (i + 1)) rest) = rw (k, h) (regroup front a (cells_left (count - (i + 1)) rest)) in
+    let one : behind_cells front (cells_left (count - i) ts) ≡ behind_cells (with_number front a) (cells_left (count - (i + 1)) rest) = rw (k, h) (regroup front a (cells_left (count - (i + 1)) rest)) in
     sym one ∙ so_far
 
-pub ends : (e : LineFault) (front : Result (List ℕ) What) (count i : ℕ) (ts : Tokens) (total : Option (Result (List ℕ) What × Tokens)) → i < count → NotRead e (cell_word ts)
+pub ends : (e : LineFault) (front : Result (List ℕ) What) (count i : ℕ) (ts : Tokens) (total : Option (Result (List ℕ) What × Tokens)) → i < count → NotRead e (small ts)
     → behind_cells front (cells_left (count - i) ts) ≡ total → LineFails e (judge total)
 ends Wrong front count i ts total lt h so_far =
     let k : count - i ≡ suc (count - (i + 1)) = omega arith in

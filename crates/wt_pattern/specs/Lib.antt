@@ -7,6 +7,5 @@ pub mod Periods
 pub mod TileRows
 pub mod Numbered
 pub mod PatternRows
-pub mod Cells
 pub mod Writing
 pub mod SetTexts

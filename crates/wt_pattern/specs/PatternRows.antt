@@ -3,12 +3,14 @@ use Rattle.std.specs.Prelude.{◌≡◌, ℕ, zero, suc, ◌+◌, ◌*◌, ◌�
 use Rattle.std.specs.List.{flat_map}
 use Rattle.std.specs.Fmt.{decimal}
 use Rattle.wt_line.specs.declared.faults.What.{What}
-use Rattle.wt_line.specs.declared.faults.What.TheVariants.{Width, Height, Number}
+use Rattle.wt_line.specs.Limits.{small}
+use Rattle.wt_line.specs.declared.faults.What.TheVariants.{Width, Height}
 use Rattle.wt_text.specs.Words.{number}
 use Rattle.wt_text.specs.Lines.{Line}
-use Rattle.wt_text.specs.Readers.{◌>>=◌, LineFault, TextFault, within, number_to, value_behind, both, whole, value_in_front, one_line, many_parts, seen_as, part_by}
+use Rattle.wt_text.specs.Readers.{◌>>=◌, LineFault, TextFault, within, value_behind, both, whole, value_in_front, one_line, many_parts, seen_as, part_by}
 use Rattle.wt_text.specs.Spellings.{behind_spelling, both_spelling, number_spelling, line_spelling}
 use Rattle.wt_grid.specs.Grid.{Grid}
+use Rattle.wt_grid.specs.declared.limits.TheConstants.{MAX_SIDE}
 use Rattle.wt_pattern.specs.TileRows.{no_state}
 
 -- so many values one after the other
@@ -16,13 +18,9 @@ abbrev pub times : {W A : Type 0} → (List (List ℕ) → Option (Result A W ×
 times read zero ts = Some (Ok [], ts)
 times read (suc n) ts = read ts >>= λ a. times read n a.1 >>= λ x. Some (value_in_front a.0 x.0, x.1)
 
--- a number of a tile, of any set
-abbrev pub cell_word : List (List ℕ) → Option (Result ℕ What × List (List ℕ))
-cell_word = number_to 65535 Number
-
 -- a row of so many numbers
 abbrev pub cells_form : ℕ → List (List ℕ) → Result (List ℕ) (LineFault What)
-cells_form width = whole (times cell_word width)
+cells_form width = whole (times small width)
 
 -- so many rows of so many numbers
 abbrev pub cells_rows : ℕ → ℕ → ℕ × List Line → Result (List (List ℕ) × (ℕ × List Line)) (TextFault What)
@@ -43,7 +41,7 @@ pattern_rows width height = seen_as (rows_grid width height) (cells_rows width h
 -- a width or a height: at least 1
 abbrev pub side_word : What → List (List ℕ) → Option (Result ℕ What × List (List ℕ))
 side_word what [] = None
-side_word what (t ∷ ts) = number t >>= λ n. if nat_eq n 0 then None else Some (within 4096 what n, ts)
+side_word what (t ∷ ts) = number t >>= λ n. if nat_eq n 0 then None else Some (within MAX_SIDE what n, ts)
 
 -- pattern w h
 abbrev pub shape_form : List (List ℕ) → Result (ℕ × ℕ) (LineFault What)

@@ -11,6 +11,8 @@ ghost use Rattle.wt_pattern.specs.TileRows.{tile_rows, rows_spelling, list_rows,
 ghost use Rattle.wt_pattern.specs.SetTexts.{as_numbered, RowsFit};
 ghost use Rattle.wt_pattern.specs.PatternRows.{pattern_rows, pattern_lines};
 
+use wt_line::MOST;
+
 /// A text is read as a list of tiles exactly where it is the text of that list, which has so many tiles and whose colours are numbered by first coming.
 pub fn set_texts_are_exact()
     ensures found { (bytes : List ℕ) (n : ℕ) (list : TileList) → whole_text {W = What} (tile_rows n) (lines bytes) ≡ Ok list → (bytes ≡ bytes_of (rows_spelling list)) × (length list.tiles ≡ n) × IsListed list }
@@ -25,6 +27,6 @@ pub fn listed_tiles_are_numbered()
 
 /// A text is read as a pattern of a width and a height exactly where it is the text of a rectangle of that width and height whose cells are at most 65535.
 pub fn pattern_texts_are_exact()
-    ensures found { (bytes : List ℕ) (w h : ℕ) (g : Grid) → 1 ≤ w → 1 ≤ h → whole_text (pattern_rows w h) (lines bytes) ≡ Ok g → (bytes ≡ bytes_of (pattern_lines g)) × (g.width ≡ w) × (g.height ≡ h) × IsGrid g × AllFit (λ c. c ≤ 65535) g.cells }
-    ensures again { (g : Grid) → IsGrid g → AllFit (λ c. c ≤ 65535) g.cells → whole_text (pattern_rows g.width g.height) (lines (bytes_of (pattern_lines g))) ≡ Ok g }
+    ensures found { (bytes : List ℕ) (w h : ℕ) (g : Grid) → 1 ≤ w → 1 ≤ h → whole_text (pattern_rows w h) (lines bytes) ≡ Ok g → (bytes ≡ bytes_of (pattern_lines g)) × (g.width ≡ w) × (g.height ≡ h) × IsGrid g × AllFit (λ c. c ≤ MOST) g.cells }
+    ensures again { (g : Grid) → IsGrid g → AllFit (λ c. c ≤ MOST) g.cells → whole_text (pattern_rows g.width g.height) (lines (bytes_of (pattern_lines g))) ≡ Ok g }
 {}

@@ -9,9 +9,9 @@ ghost use Rattle.wt_cert.specs.LineForms as spec;
 ghost use Rattle.wt_cert.specs.Seen.{head_view, end_view};
 ghost use Rattle.wt_line.specs.Left.{tokens_left, ReadsRest};
 
-use crate::read::words::{axis, radius, side, small, this_number};
+use crate::read::words::{axis, radius, side, this_number};
 use wt_chain::Version;
-use wt_line::{LineFault, Rest, What, line_end, next_token, number, number_to, word};
+use wt_line::{LineFault, Rest, What, line_end, next_token, number, number_to, small_number, word};
 use wt_tile::{Axis, Side};
 
 const MAX_STEPS: u64 = 32;
@@ -202,7 +202,7 @@ pub fn end_row(line: &[u8]) -> Result<EndLine, LineFault>
     if token != b"loop".as_slice() {
         return Err(LineFault::Wrong);
     }
-    let (start, rest) = small(rest)?;
+    let (start, rest) = small_number(rest)?;
     let (expansion, rest) = number_to(MAX_EXPANSION, What::Expansion, rest)?;
     line_end(rest)?;
     Ok(EndLine::Loop {

@@ -1,51 +1,27 @@
 // Lists of numbers in a line.
-ghost use Rattle.std.specs.Prelude.{◌≡◌, ◌≤◌, ◌+◌, ◌<◌, [], IfOk, OnErr, IsErrOf, length};
+ghost use Rattle.std.specs.Prelude.{◌≡◌, ◌≤◌, ◌+◌, ◌<◌, [], IfOk, length};
 ghost use Rattle.wt_line.specs.declared.faults.What.TheVariants.{Tiles, Number};
-ghost use Rattle.wt_line.specs.declared.faults.LineFault.TheVariants.{OutOfMemory};
 ghost use Rattle.wt_line.specs.Faults.{ReadsTokens, ReadsLine};
 ghost use Rattle.wt_text.specs.Words.{tokens};
 ghost use Rattle.wt_text.specs.Readers.{mapped, numbers_to};
 ghost use Rattle.wt_text.specs.Readers as spec;
 ghost use Rattle.wt_cert.specs.LineForms.{numbers_form};
-ghost use Rattle.wt_cert.specs.Seen.{with_number};
 ghost use Rattle.wt_line.specs.Left.{tokens_left};
 
-use crate::read::words::small;
 use std::alloc::Global;
-use wt_line::{LineFault, Rest, What, next_token, number, word};
-
-const MAX_NUMBERS: u64 = 256;
-
-/// One number more, where no number so far is past its limit.
-fn and_number(
-    front: Result<Vec<u16>, What>,
-    number: Result<u16, What>,
-) -> Result<Result<Vec<u16>, What>, LineFault>
-    ensures value { IfOk result (λ r. mapped (λ v. v.items) r ≡ with_number (mapped (λ v. v.items) front) number) }
-    ensures fault { OnErr result (IsErrOf result OutOfMemory) }
-{
-    match front {
-        Err(what) => Ok(Err(what)),
-        Ok(mut numbers) => match number {
-            Err(what) => Ok(Err(what)),
-            Ok(number) => {
-                numbers.push(number)?;
-                Ok(Ok(numbers))
-            }
-        },
-    }
-}
+use wt_grid::MAX_TILES;
+use wt_line::{LineFault, MOST, Rest, What, and_number, next_token, number, small_number, word};
 
 /// The numbers to the end of a line, and how many they are.
 fn numbers_to_end(alloc: Global, rest: Rest<'_>) -> Result<(Result<Vec<u16>, What>, u64), LineFault>
-    ensures read { ReadsTokens (λ x. mapped (λ v. v.items) x.0) result (numbers_to 65535 Number (tokens_left rest.entry)) }
+    ensures read { ReadsTokens (λ x. mapped (λ v. v.items) x.0) result (numbers_to MOST Number (tokens_left rest.entry)) }
     ensures count { IfOk result (λ x. x.1 ≡ length (tokens_left rest.entry)) }
 {
     let mut numbers = Ok(Vec::new(alloc));
     let mut count = 0u64;
     let mut rest = rest;
     while rest.more {
-        let (number, after) = small(rest)?;
+        let (number, after) = small_number(rest)?;
         numbers = and_number(numbers, number)?;
         count += 1;
         rest = after;
@@ -55,7 +31,7 @@ fn numbers_to_end(alloc: Global, rest: Rest<'_>) -> Result<(Result<Vec<u16>, Wha
 
 /// A count, and so many numbers to the end of the line.
 fn counted_numbers(alloc: Global, rest: Rest<'_>) -> Result<Result<Vec<u16>, What>, LineFault>
-    ensures { ReadsTokens (λ x. (mapped (λ v. v.items) x, [])) result (spec.counted_numbers 256 Tiles 65535 Number (tokens_left rest.entry)) }
+    ensures { ReadsTokens (λ x. (mapped (λ v. v.items) x, [])) result (spec.counted_numbers MAX_TILES Tiles MOST Number (tokens_left rest.entry)) }
 {
     let Some((token, rest)) = next_token(rest) else {
         return Err(LineFault::Wrong);
@@ -67,7 +43,7 @@ fn counted_numbers(alloc: Global, rest: Rest<'_>) -> Result<Result<Vec<u16>, Wha
     if count != many {
         return Err(LineFault::Wrong);
     }
-    if many > MAX_NUMBERS {
+    if many > MAX_TILES as u64 {
         return Ok(Err(What::Tiles));
     }
     Ok(numbers)

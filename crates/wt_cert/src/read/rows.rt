@@ -14,10 +14,10 @@ ghost use Rattle.wt_line.specs.Left.{tokens_left, ReadsRest};
 
 use crate::read::forms::tree_form;
 use crate::read::trees::tree_within;
-use crate::read::words::{axis, radius, small};
+use crate::read::words::{axis, radius};
 use std::alloc::Global;
 use wt_chain::Version;
-use wt_line::{LineFault, Rest, What, line_end};
+use wt_line::{LineFault, Rest, What, line_end, small_number};
 use wt_morphism::Image;
 use wt_refute::{Refuted, Tree};
 use wt_step::Lost;
@@ -38,8 +38,8 @@ pub struct Grown {
 pub fn pair_row(line: &[u8]) -> Result<(u16, u16), LineFault>
     ensures { ReadsLine (λ x. x) result (pair_form (tokens line.now)) }
 {
-    let (a, rest) = small(Rest::new(line))?;
-    let (b, rest) = small(rest)?;
+    let (a, rest) = small_number(Rest::new(line))?;
+    let (b, rest) = small_number(rest)?;
     line_end(rest)?;
     Ok((a?, b?))
 }
@@ -49,11 +49,11 @@ pub fn pair_row(line: &[u8]) -> Result<(u16, u16), LineFault>
 pub fn image_row(line: &[u8]) -> Result<Image, LineFault>
     ensures { ReadsLine (λ x. x) result (image_form (tokens line.now)) }
 {
-    let (u, rest) = small(Rest::new(line))?;
+    let (u, rest) = small_number(Rest::new(line))?;
     if !rest.more {
         return Ok(Image::One(u?));
     }
-    let (v, rest) = small(rest)?;
+    let (v, rest) = small_number(rest)?;
     line_end(rest)?;
     Ok(Image::Two(u?, v?))
 }
@@ -125,8 +125,8 @@ pub fn refuted_row(
     ensures room { IfOk result (λ x. x.1 ≤ 1048576) }
 {
     let (axis, rest) = axis(Rest::new(line))?;
-    let (a, rest) = small(rest)?;
-    let (b, rest) = small(rest)?;
+    let (a, rest) = small_number(rest)?;
+    let (b, rest) = small_number(rest)?;
     let (radius, rest) = radius_in(version, radius, rest)?;
     let (grown, rest) = tree_to_end(alloc, may_cite(version), nodes, rest)?;
     line_end(rest)?;
@@ -151,7 +151,7 @@ pub fn lost_row(alloc: Global, nodes: u32, line: &[u8]) -> Result<(Lost, u32), L
     ensures nodes { IfOk result (λ x. x.1 ≡ with_lost nodes x.0) }
     ensures room { IfOk result (λ x. x.1 ≤ 1048576) }
 {
-    let (tile, rest) = small(Rest::new(line))?;
+    let (tile, rest) = small_number(Rest::new(line))?;
     let (grown, rest) = tree_to_end(alloc, true, nodes, rest)?;
     line_end(rest)?;
     let tile = tile?;

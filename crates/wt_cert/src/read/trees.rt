@@ -12,11 +12,9 @@ ghost use Rattle.wt_line.specs.Left.{tokens_left};
 
 use sqlite_items::Items;
 use std::alloc::Global;
-use wt_line::{LineFault, Rest, What, next_token, number};
+use wt_line::{LineFault, MOST, Rest, What, next_token, number};
 use wt_refute::{Child, Tree};
 use wt_tile::Axis;
-
-const MOST: u64 = 65535;
 
 const MAX_CHILDREN: u64 = 256;
 
@@ -31,13 +29,13 @@ pub enum Ending {
     Cites(Axis),
 }
 
-fn small_number(token: &[u8]) -> Result<u16, LineFault>
-    ensures { ReadsLine (λ x. x) result (limited 65535 Number (spec.number token.now)) }
+fn tile_number(token: &[u8]) -> Result<u16, LineFault>
+    ensures { ReadsLine (λ x. x) result (limited MOST Number (spec.number token.now)) }
 {
     let Some(value) = number(token) else {
         return Err(LineFault::Wrong);
     };
-    if value > MOST {
+    if value > u64::from(MOST) {
         return Err(LineFault::Past(What::Number));
     }
     Ok(value as u16)
@@ -50,7 +48,7 @@ fn cell_number(nodes: u32, token: &[u8]) -> Result<u16, LineFault>
     if nodes >= MAX_NODES {
         return Err(LineFault::Past(What::Nodes));
     }
-    small_number(token)
+    tile_number(token)
 }
 
 fn node_ending(citing: bool, token: &[u8]) -> Result<Ending, LineFault>
@@ -140,7 +138,7 @@ fn branches_within(
         let Some((tile, after)) = next_token(left) else {
             return Err(LineFault::Wrong);
         };
-        let tile = small_number(tile)?;
+        let tile = tile_number(tile)?;
         let (tree, grown, after) = tree_within(alloc, citing, levels, total, after)?;
         children.push(Child { tile, tree })?;
         total = grown;

@@ -9,21 +9,7 @@ ghost use Rattle.wt_line.specs.Left.{tokens_left, room_left, ReadsRest};
 use wt_line::{LineFault, Rest, What, next_token, number, number_to};
 use wt_tile::{Axis, Side};
 
-const MOST: u32 = 65535;
-
 const MAX_RADIUS: u32 = 4;
-
-/// A number that has no limit of its own.
-pub fn small(rest: Rest<'_>) -> Result<(Result<u16, What>, Rest<'_>), LineFault>
-    ensures fewer { IfOk result (λ x. room_left x.1 < room_left rest.entry) }
-    ensures read { ReadsRest spec.small result rest.entry }
-{
-    let (value, rest) = number_to(MOST, What::Number, rest)?;
-    match value {
-        Ok(value) => Ok((Ok(value as u16), rest)),
-        Err(what) => Ok((Err(what), rest)),
-    }
-}
 
 /// A radius, at most 4.
 pub fn radius(rest: Rest<'_>) -> Result<(Result<u8, What>, Rest<'_>), LineFault>
