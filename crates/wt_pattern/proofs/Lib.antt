@@ -14,3 +14,4 @@ pub mod PeriodLaws
 pub mod Written
 pub mod SetTexts
 pub mod PatternTexts
+pub mod Drawn

@@ -9,3 +9,4 @@ pub mod Numbered
 pub mod PatternRows
 pub mod Writing
 pub mod SetTexts
+pub mod Drawings

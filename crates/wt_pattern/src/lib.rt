@@ -2,6 +2,7 @@
 #![tactic(auto)]
 
 mod cells;
+mod drawing;
 mod fault;
 mod laws;
 mod neighbours;
@@ -17,6 +18,7 @@ mod validity;
 mod window;
 mod writing;
 
+pub use drawing::{DrawFault, Style, draw};
 pub use fault::{Fault, PartFault, ShapeFault};
 pub use laws::{
     faults, period_faults, period_lines, period_turns, signs_of_periods, tiles_faults, valid_lines,

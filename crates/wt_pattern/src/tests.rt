@@ -1,7 +1,7 @@
 // What no clause says: faults, periods and parts that were worked out by hand, and each call once.
 use crate::{
-    Fault, Pattern, core, part, pattern_text, period_fault, read_pattern, read_set, tiles_fault,
-    valid, window_shape, write_set,
+    DrawFault, Fault, Pattern, Style, core, draw, part, pattern_text, period_fault, read_pattern,
+    read_set, tiles_fault, valid, window_shape, write_set,
 };
 use std::alloc::{AllocError, Global};
 use std::test::Fail;
@@ -200,5 +200,28 @@ fn reads_and_writes_a_pattern(rt: HostRuntime) -> Result<(), Fail> {
     let written = pattern_text(rt.alloc(), &p)?;
     assert_eq!(rt; written.as_slice(), text.as_slice());
     assert!(rt; read_pattern(rt.alloc(), text, 3, 2).is_err());
+    Ok(())
+}
+
+#[test]
+fn draws_boxes_and_numbers(rt: HostRuntime) -> Result<(), Fail> {
+    let list = nineteen(rt.alloc())?;
+    let text = b"k A k m\nk BC k m\n";
+    let Ok(long) = read_set(rt.alloc(), text, 2) else {
+        return Err(Fail::new("a set of two tiles is not read"));
+    };
+    let one = pattern(rt.alloc(), 1, 1, &[0])?.ok_or("a pattern")?;
+    let square = pattern(rt.alloc(), 2, 2, &[13, 9, 4, 1])?.ok_or("a pattern")?;
+    let box_of_one = b"  O    \nJ   0 F\n  O    \n";
+    let box_of_two = b"   A     \nk    0 k \n   m     \n";
+    let boxes = Style::Boxes;
+    let drawn = draw(rt.alloc(), SetRef::new(&list).ok(), &one, boxes);
+    assert!(rt; drawn.is_ok_and(|text| text.as_slice() == box_of_one.as_slice()));
+    let drawn = draw(rt.alloc(), SetRef::new(&long).ok(), &one, boxes);
+    assert!(rt; drawn.is_ok_and(|text| text.as_slice() == box_of_two.as_slice()));
+    let drawn = draw(rt.alloc(), None, &square, Style::Numbers);
+    assert!(rt; drawn.is_ok_and(|text| text.as_slice() == b"4 1\n13 9\n".as_slice()));
+    let drawn = draw(rt.alloc(), None, &square, boxes);
+    assert!(rt; drawn.is_err_and(|fault| fault == DrawFault::NoSet));
     Ok(())
 }

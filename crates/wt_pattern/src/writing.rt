@@ -12,7 +12,7 @@ use wt_tile::{Name, SetRef, Tile, TileList};
 use wt_write::{end_line, push_row};
 
 /// The name of a colour; no bytes where it has none.
-fn name_of(names: &[Name], number: u16) -> &[u8]
+pub(crate) fn name_of(names: &[Name], number: u16) -> &[u8]
     ensures { result.now ≡ name_at names.now number }
 {
     let number = usize::from(number);
