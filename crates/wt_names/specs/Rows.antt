@@ -6,6 +6,7 @@ use Rattle.wt_text.specs.Readers.{LineFault, both, whole}
 use Rattle.wt_text.specs.Spellings.{both_spelling}
 use Rattle.wt_names.specs.Numbering.{numbered, all_seen, named, InOrder}
 
+-- A value for each edge of a tile.
 pub record Edges (A : Type 0) : Type 0 where
   pub right : A
   pub top : A
@@ -22,10 +23,12 @@ abbrev pub along2 : {A : Type 0} → List (Edges A) → List A
 along2 [] = []
 along2 (t ∷ ts) = t.top ∷ t.bottom ∷ along2 ts
 
+-- tiles from what stands along axis 1 and along axis 2
 abbrev pub tiles_from : {A : Type 0} → List A → List A → List (Edges A)
 tiles_from (e ∷ w ∷ es) (n ∷ s ∷ ns) = record { right = e; top = n; left = w; bottom = s } ∷ tiles_from es ns
 tiles_from es ns = []
 
+-- Tiles with a number for each edge, and the names of the numbers of each axis.
 pub record NumberedTiles : Type 0 where
   pub tiles : List (Edges ℕ)
   pub names1 : List (List ℕ)
@@ -35,6 +38,7 @@ pub record NumberedTiles : Type 0 where
 abbrev pub with_numbers : List (Edges (List ℕ)) → NumberedTiles
 with_numbers rows = record { tiles = tiles_from (numbered [] (along1 rows)) (numbered [] (along2 rows)); names1 = all_seen [] (along1 rows); names2 = all_seen [] (along2 rows) }
 
+-- the names of the edges of each tile
 abbrev pub with_names : NumberedTiles → List (Edges (List ℕ))
 with_names list = tiles_from (named list.names1 (along1 list.tiles)) (named list.names2 (along2 list.tiles))
 
@@ -47,13 +51,16 @@ pub record IsNumbered (list : NumberedTiles) : Type 0 where
 
 -- ---- a row in a line
 
+-- 1 to 16 bytes of the alphabet of names
 abbrev pub is_name : List ℕ → Bool
 is_name t = nat_lt 0 (length t) && nat_le (length t) 16 && all_name_bytes t
 
+-- a name
 abbrev pub name_word : {W : Type 0} → List (List ℕ) → Option (Result (List ℕ) W × List (List ℕ))
 name_word [] = None
 name_word (t ∷ ts) = if is_name t then Some (Ok t, ts) else None
 
+-- a name as it stands in a line
 abbrev pub name_spelling : List ℕ → List (List ℕ)
 name_spelling t = t ∷ []
 
@@ -61,8 +68,10 @@ name_spelling t = t ∷ []
 abbrev pub row_form : {W : Type 0} → List (List ℕ) → Result (List ℕ × (List ℕ × (List ℕ × List ℕ))) (LineFault W)
 row_form = whole (both name_word (both name_word (both name_word name_word)))
 
+-- the four names of a row as they stand in a line
 abbrev pub row_spelling : List ℕ × (List ℕ × (List ℕ × List ℕ)) → List (List ℕ)
 row_spelling = both_spelling name_spelling (both_spelling name_spelling (both_spelling name_spelling name_spelling))
 
+-- each of the four is a name
 abbrev pub RowFits : List ℕ × (List ℕ × (List ℕ × List ℕ)) → Type 0
 RowFits x = (is_name x.0 ≡ true) × ((is_name x.1.0 ≡ true) × ((is_name x.1.1.0 ≡ true) × (is_name x.1.1.1 ≡ true)))

@@ -7,10 +7,12 @@ pub record Line : Type 0 where
   pub text : List ℕ
   pub ended : Bool
 
+-- a byte in front of the first line
 abbrev pub in_line : ℕ → List Line → List Line
 in_line b [] = record { text = b ∷ []; ended = false } ∷ []
 in_line b (l ∷ ls) = record { text = b ∷ l.text; ended = l.ended } ∷ ls
 
+-- the lines of a text: each newline ends one, and what is left is a line that none ends
 abbrev pub lines : List ℕ → List Line
 lines [] = []
 lines (b ∷ bs) = if nat_eq b 10 then record { text = []; ended = true } ∷ lines bs else in_line b (lines bs)

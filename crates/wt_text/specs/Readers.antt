@@ -5,11 +5,13 @@ use Rattle.std.specs.Fmt.{decimal}
 use Rattle.wt_text.specs.Words.{tokens, number}
 use Rattle.wt_text.specs.Lines.{Line}
 
+-- what is read next, where something was read
 infixl 10 ◌>>=◌
 abbrev pub ◌>>=◌ : {A B : Type 0} → Option A → (A → Option B) → Option B
 (Some x) >>= f = f x
 None >>= f = None
 
+-- what is read next, where nothing was wrong
 infixl 10 ◌then◌
 abbrev pub ◌then◌ : {A B E : Type 0} → Result A E → (A → Result B E) → Result B E
 (Ok x) then f = f x
@@ -28,6 +30,7 @@ abbrev pub after : List ℕ → List (List ℕ) → Option (List (List ℕ))
 after w [] = None
 after w (t ∷ ts) = if bytes_eq t w then Some ts else None
 
+-- a number within its limit, or the limit that it passes
 abbrev pub within : {W : Type 0} → ℕ → W → ℕ → Result ℕ W
 within most what n = if nat_le n most then Ok n else Err what
 
@@ -49,6 +52,7 @@ value_behind w read ts = after w ts >>= read
 abbrev pub given : {W A : Type 0} → A → List (List ℕ) → Option (Result A W × List (List ℕ))
 given x ts = Some (Ok x, ts)
 
+-- a value within its limits, seen as one of another kind
 abbrev pub mapped : {W A B : Type 0} → (A → B) → Result A W → Result B W
 mapped f (Ok a) = Ok (f a)
 mapped f (Err w) = Err w
@@ -94,15 +98,18 @@ counted_numbers many kind most what (t ∷ ts) = number t >>= λ n. if nat_eq (l
 
 -- ---- a line, whole
 
+-- What is wrong with a line: its form, or a limit that it passes.
 pub data LineFault (W : Type 0) : Type 0 where
   wrong : LineFault W
   past : W → LineFault W
 
+-- a value within its limits, where no token is left
 abbrev pub judged : {W A : Type 0} → Result A W → List (List ℕ) → Result A (LineFault W)
 judged (Ok a) [] = Ok a
 judged (Err w) [] = Err (past w)
 judged r (t ∷ ts) = Err wrong
 
+-- what was read of a line, where that is the whole line
 abbrev pub judge : {W A : Type 0} → Option (Result A W × List (List ℕ)) → Result A (LineFault W)
 judge None = Err wrong
 judge (Some x) = judged x.0 x.1
@@ -113,18 +120,22 @@ whole read ts = judge (read ts)
 
 -- ---- a text: the number of the next line, and the lines that are left
 
+-- What is wrong with a text, at the number of its first such line, counted from 1.
 pub data TextFault (W : Type 0) : Type 0 where
   syntax_at : ℕ → TextFault W
   limit_at : W → ℕ → TextFault W
 
+-- the fault of a line, at its number
 abbrev pub faulty : {W : Type 0} → ℕ → LineFault W → TextFault W
 faulty n wrong = syntax_at n
 faulty n (past w) = limit_at w n
 
+-- what a line gave, and the lines behind it
 abbrev pub line_read : {W A : Type 0} → ℕ → List Line → Result A (LineFault W) → Result (A × (ℕ × List Line)) (TextFault W)
 line_read n ls (Ok a) = Ok (a, (n + 1, ls))
 line_read n ls (Err e) = Err (faulty n e)
 
+-- the next line, which a newline ends
 abbrev pub line_at : {W A : Type 0} → (List (List ℕ) → Result A (LineFault W)) → ℕ → List Line → Result (A × (ℕ × List Line)) (TextFault W)
 line_at read n [] = Err (syntax_at n)
 line_at read n (l ∷ ls) = if l.ended then line_read n ls (read (tokens l.text)) else Err (syntax_at n)
@@ -156,6 +167,7 @@ abbrev pub ended_here : {W A : Type 0} → A → ℕ → List Line → Result A 
 ended_here a n [] = Ok a
 ended_here a n (l ∷ ls) = Err (syntax_at n)
 
+-- a part that is the whole text
 unfoldable pub whole_text : {W A : Type 0} → (ℕ × List Line → Result (A × (ℕ × List Line)) (TextFault W)) → List Line → Result A (TextFault W)
 whole_text read ls = read (1, ls) then λ x. ended_here x.0 x.1.0 x.1.1
 

@@ -8,26 +8,33 @@ abbrev pub IsClean : List ℕ → Type 0
 IsClean [] = Unit {0}
 IsClean (b ∷ bs) = (nat_eq b 32 ≡ false) × (nat_eq b 10 ≡ false) × IsClean bs
 
+-- each element is so
 abbrev pub AllFit : {A : Type 0} → (A → Type 0) → List A → Type 0
 AllFit P [] = Unit {0}
 AllFit P (x ∷ xs) = P x × AllFit P xs
 
+-- the list has an element
 abbrev pub IsNotEmpty : {A : Type 0} → List A → Type 0
 IsNotEmpty [] = ⊥
 IsNotEmpty (x ∷ xs) = Unit {0}
 
+-- a number in decimal digits
 abbrev pub number_spelling : ℕ → List (List ℕ)
 number_spelling n = decimal n ∷ []
 
+-- a word, and then a value
 abbrev pub behind_spelling : {A : Type 0} → List ℕ → (A → List (List ℕ)) → A → List (List ℕ)
 behind_spelling w spell x = w ∷ spell x
 
+-- one value, and then another
 abbrev pub both_spelling : {A B C : Type 0} → (A → List C) → (B → List C) → A × B → List C
 both_spelling sa sb x = sa x.0 ++ sb x.1
 
+-- how many numbers there are, and then the numbers
 abbrev pub counted_spelling : List ℕ → List (List ℕ)
 counted_spelling ns = decimal (length ns) ∷ map decimal ns
 
+-- a value in a line of its own
 abbrev pub line_spelling : {A : Type 0} → (A → List (List ℕ)) → A → List Line
 line_spelling spell x = line_of (spell x) ∷ []
 
