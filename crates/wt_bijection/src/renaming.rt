@@ -75,11 +75,13 @@ pub(crate) fn wrong_number(from: &[Tile], to: &[Tile], list: &[u16]) -> Option<u
     None
 }
 
-/// Whether `list` is a renaming: number i of it is the tile of `to` that tile i of `from` is carried onto, one to one,
+/// Whether `list` is a renaming: number i of it is the tile of `to` that tile i of `from` is carried onto, one to
+/// one,
 /// and there are bijections of the colours of each axis that carry each tile onto its partner (Labbé's equivalence of
 /// tile sets).
 ///
-/// Where the two sets and the list differ in length, the fault is the least of the three lengths. Else it is the first
+/// Where the two sets and the list differ in length, the fault is the least of the three lengths. Else it is the
+/// first
 /// i whose number is no tile of `to`, came before, or has colours that disagree with a one-to-one pairing made by the
 /// tiles 0 to i.
 #[tactic(auto, unfolding(crate::specs::Renaming::renaming_fault))]

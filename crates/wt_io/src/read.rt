@@ -28,7 +28,8 @@ pub const PIECE: usize = 4096;
 /// All bytes of a source up to the end of input, if they are no more than `limit`.
 ///
 /// It answers `TooLong` exactly where more than `limit` bytes came, and stops at the piece that passes it. The first
-/// failure of the source ends the call with `ReadFault`, and nothing else gives that answer. After a refusal the bytes
+/// failure of the source ends the call with `ReadFault`, and nothing else gives that answer. After a refusal the
+/// bytes
 /// that came are taken from the source.
 pub fn read_all<S: Source>(alloc: Global, src: &mut S, limit: usize) -> Result<Vec<u8>, ReadError>
     // All bytes came, to the end, and within the limit.

@@ -21,7 +21,8 @@ pub trait Sink {
 
     /// Appends the first bytes of a piece, and says how many: at least one, where the piece has any.
     ///
-    /// A failure appends nothing, and comes only where the count of faults rose; without one the count stays as it was.
+    /// A failure appends nothing, and comes only where the count of faults rose; without one the count stays as
+    /// it was.
     fn write(&mut self, buf: &[u8]) -> Result<usize, Failed>
         ensures bound { WritesAtMost result buf.now }
         ensures moves { Progresses result buf.now }

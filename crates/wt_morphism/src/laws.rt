@@ -12,7 +12,8 @@ pub fn uneven_lines()
     ensures { (m : Morphism) (p : Grid) → IsGrid p → (uneven m p ≡ None) ↔ IsEven (pieces m) (lines m.axis p) }
 {}
 
-/// A rectangle has the image q laid line by line exactly where q's lines are even and it is the image of q.
+/// For q whose tiles are in the table: a rectangle is the image of q laid line by line exactly where q's lines are even
+/// and it is the image of q.
 pub fn images_are_images()
     ensures { (m : Morphism) (q g : Grid) → IsGrid q → IsGrid g → AllBelow (length m.table) q
         → IsImage (pieces m) (lines m.axis q) (lines m.axis g) ↔ (uneven m q ≡ None) × (g ≡ image m q) }

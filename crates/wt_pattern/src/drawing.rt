@@ -218,8 +218,10 @@ fn draw_boxes(alloc: Global, list: &TileList, p: &Pattern) -> Result<Vec<u8>, Al
 
 /// A pattern, drawn as rows of numbers or as boxes with the names of the set's colours, the top row first.
 ///
-/// With f the length of the set's longest name, a box has three lines of 2f + 5 bytes, and a bar stands between each two
-/// boxes of a row. A number past the set is drawn as a tile whose edges all have colour 0. `NoSet` comes exactly where
+/// With f the length of the set's longest name, a box has three lines of 2f + 5 bytes, and a bar stands between
+/// each two
+/// boxes of a row. A number past the set is drawn as a tile whose edges all have colour 0. `NoSet` comes exactly
+/// where
 /// boxes are asked for without a set; else only memory can want.
 pub fn draw(
     alloc: Global,

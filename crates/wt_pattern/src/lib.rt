@@ -1,4 +1,5 @@
-//! Patterns: rectangles of tile numbers, their parts, the first fault of one that isn't valid, periods, and their text.
+//! Patterns: rectangles of tile numbers, their parts, the first fault of one that isn't valid, periods, and their
+//! text.
 #![tactic(auto)]
 
 mod cells;

@@ -60,7 +60,8 @@ pub fn line_fault(tiles: &[Tile], axis: Axis, low: &[u16], high: &[u16]) -> Opti
     None
 }
 
-/// Of the first fault to the right and the first fault upwards in a row the earlier one: at one cell the fault to the right.
+/// Of the first fault to the right and the first fault upwards in a row the earlier one: at one cell the fault to
+/// the right.
 pub fn earlier(y: usize, right: Option<usize>, up: Option<usize>) -> Option<Fault>
     ensures { result ≡ spec.earlier y right up }
 {

@@ -28,7 +28,8 @@ impl Model for Pattern {
 }
 
 impl Pattern {
-    /// The pattern with these cells in reading order, or the cells and what is wrong: Zero, then TooLarge, then Count. Takes no memory.
+    /// The pattern with these cells in reading order, or the cells and what is wrong: Zero, then TooLarge, then
+    /// Count. Takes no memory.
     pub fn new(
         width: usize,
         height: usize,

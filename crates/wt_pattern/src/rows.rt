@@ -134,7 +134,8 @@ fn numbered(
     })
 }
 
-/// So many rows of four colour names as a list of tiles, and the place behind them. The names are the right, the top, the left and the bottom one; the colours of each axis are numbered by first coming.
+/// So many rows of four colour names as a list of tiles, and the place behind them. The names are the right, the
+/// top, the left and the bottom one; the colours of each axis are numbered by first coming.
 pub fn tiles_at(
     alloc: Global,
     count: usize,

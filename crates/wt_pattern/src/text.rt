@@ -104,7 +104,8 @@ fn shape_at(place: Place<'_>) -> Result<((usize, usize), Place<'_>), TextFault>
     Ok((shape, next))
 }
 
-/// A pattern with its head: the line `pattern`, its width and its height, and then its rows, the top one first. The place behind it comes with it.
+/// A pattern with its head: the line `pattern`, its width and its height, and then its rows, the top one first.
+/// The place behind it comes with it.
 #[tactic(auto, unfolding(wt_text::specs::Readers::seen_as, wt_text::specs::Readers::part_by))]
 pub fn pattern_at(alloc: Global, place: Place<'_>) -> Result<(Pattern, Place<'_>), TextFault>
     ensures { ReadsPlace pattern_part result place.entry }

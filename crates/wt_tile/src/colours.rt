@@ -53,7 +53,8 @@ impl Colours {
         self.edges.len() as u16
     }
 
-    /// The number of an edge: that of its first coming, or the next one for a new edge, which is kept. After a refusal nothing has changed.
+    /// The number of an edge: that of its first coming, or the next one for a new edge, which is kept. After a
+    /// refusal nothing has changed.
     pub fn number(&mut self, edge: Edge) -> Result<u16, ColourFault>
         ensures numbered { IfOk result (λ n. slice_get self.new n ≡ Some edge) }
         ensures held { Contains self.old edge → OnOk result (self.new ≡ self.old) }

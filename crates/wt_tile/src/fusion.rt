@@ -5,7 +5,8 @@ ghost use Rattle.wt_tile.specs.Matching.{fits};
 
 use crate::{Axis, Tile};
 
-/// The edge of a fused tile: one colour, or two in a row. A pair is a colour of its own, different from every single colour.
+/// The edge of a fused tile: one colour, or two in a row. A pair is a colour of its own, different from every
+/// single colour.
 #[derive(Clone, Copy, Debug, PartialEq, Eq, Hash)]
 pub enum Edge {
     /// This colour alone.

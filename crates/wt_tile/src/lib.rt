@@ -1,4 +1,5 @@
-//! Tiles and tile sets: names of colours, the first fault of a list of tiles, matching, fusion, and colours of fused edges.
+//! Tiles and tile sets: names of colours, the first fault of a list of tiles, matching, fusion, and colours of
+//! fused edges.
 #![tactic(auto)]
 
 mod checks;

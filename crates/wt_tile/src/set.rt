@@ -128,7 +128,8 @@ impl<'a> SetRef<'a> {
         tile_at(self.list.tiles.as_slice(), i)
     }
 
-    /// Whether b may stand next to a along the axis: to the right of it on axis 1, above it on axis 2. Both numbers are in range.
+    /// Whether b may stand next to a along the axis: to the right of it on axis 1, above it on axis 2. Both
+    /// numbers are in range.
     pub fn matches(self, axis: Axis, a: u16, b: u16) -> bool
         requires first { a < length self.list.now.tiles }
         requires second { b < length self.list.now.tiles }

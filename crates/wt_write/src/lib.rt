@@ -1,4 +1,5 @@
-//! Text that is written: words, numbers and rows of numbers, appended to bytes. A call takes memory only for the bytes it appends.
+//! Text that is written: words, numbers and rows of numbers, appended to bytes. A call takes memory only for the
+//! bytes it appends.
 #![tactic(auto)]
 
 mod rows;
