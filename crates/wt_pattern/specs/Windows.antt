@@ -15,3 +15,7 @@ window_size Two r = (r + r + 1, r + r + 2)
 -- no valid window of this radius has a and b side by side in its middle
 abbrev pub IsEmptyWindow : List Tile → Axis → ℕ → ℕ → ℕ → Type 0
 IsEmptyWindow ts axis a b r = (g : Grid) → IsWindow (length ts) (matches ts) axis a b r g → ⊥
+
+-- a valid window of this radius has a and b side by side in its middle
+abbrev pub IsSurroundable : List Tile → Axis → ℕ → ℕ → ℕ → Type 0
+IsSurroundable ts axis a b r = (g : Grid) × IsWindow (length ts) (matches ts) axis a b r g
