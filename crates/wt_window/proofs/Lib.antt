@@ -4,3 +4,8 @@ pub mod Listed
 pub mod Sums
 pub mod Windows
 pub mod Examples
+pub mod Carried
+pub mod Searched
+pub mod Found
+pub mod Tabled
+pub mod Outcomes

@@ -9,12 +9,12 @@ use Rattle.std.proofs.Math.Nat.{mod-lt, mul-le-mul_left}
 use Rattle.wt_tile.specs.declared.tile.Tile.{Tile}
 use Rattle.wt_grid.specs.Grid.{Grid, IsGrid}
 use Rattle.wt_grid.specs.Parts.{AllBelow, IsValid, IsWindow}
-use Rattle.wt_pattern.specs.Windows.{IsEmptyWindow}
+use Rattle.wt_pattern.specs.Windows.{IsEmptyWindow, IsSurroundable}
 use Rattle.wt_window.specs.Trials.{Window, IsFilling, window, cells, fillings}
 use Rattle.wt_window.proofs.Members.{In}
 use Rattle.wt_window.proofs.Listed.{listed, listing, is_wide}
 
-row_below : (w h x y : ℕ) → y * w + x < w * h → y < h
+pub row_below : (w h x y : ℕ) → y * w + x < w * h → y < h
 row_below w h x y lt = elim (cases_lt y h) [ inl l ↦ l | inr ge ↦ absurd (let m = mul-le-mul_left w ge in omega (arith, m, lt)) ]
 
 below_at : (n : ℕ) (g : Grid) (k x y : ℕ) → AllBelow n g → x < g.width → k < g.width * g.height → k ≡ y * g.width + x → get_or g.cells k 0 < n
@@ -107,3 +107,10 @@ empty_windows ts axis a b r = (
       let g : Grid = record { width = (window axis a b r).width; height = (window axis a b r).height; cells = f } in
       h g (from_filling ts axis a b r g refl refl (listed ts (window axis a b r) (cells (window axis a b r)) f k))),
 )
+
+-- a window that is filled as listed is a window of the pair
+pub filled_window : (ts : List Tile) (axis : Axis) (a b r : ℕ) (f : List ℕ) (fs : List (List ℕ)) → fillings ts (window axis a b r) (cells (window axis a b r)) ≡ f ∷ fs → IsSurroundable ts axis a b r
+filled_window ts axis a b r f fs e =
+    let g : Grid = record { width = (window axis a b r).width; height = (window axis a b r).height; cells = f } in
+    let there : In (fillings ts (window axis a b r) (cells (window axis a b r))) f = subst (λ (l : List (List ℕ)). In l f) (sym e) (inl refl) in
+    (g, from_filling ts axis a b r g refl refl (listed ts (window axis a b r) (cells (window axis a b r)) f there))

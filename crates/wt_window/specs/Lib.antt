@@ -1,1 +1,4 @@
 pub mod Trials
+pub mod Frames
+pub mod Surrounded
+pub mod Outcomes

@@ -1,0 +1,6 @@
+use Rattle.std.proofs.Common.{ℕ, List}
+use Rattle.wt_window.specs.Frames.{Stand, IsTiled}
+use Rattle.wt_window.proofs.carry.spread.Given as goal
+
+abbrev pub invariant-loop-way : goal.invariant-loop-way
+invariant-loop-way l = (g : List ℕ) → IsTiled l.tables.tiles.now l.frame.width l.frame.height g → Stand l.fn.masks g → Stand l.masks g

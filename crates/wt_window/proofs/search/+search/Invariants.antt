@@ -1,0 +1,21 @@
+use Rattle.std.proofs.Common.{◌≡◌, ℕ, ◌+◌, ◌-◌, ◌<◌, ◌≤◌, List, length, take, get_or}
+use Rattle.wt_window.specs.Trials.{IsFilling, cells}
+use Rattle.wt_window.specs.Frames.{frame_window}
+use Rattle.wt_window.proofs.Searched.{tried}
+use Rattle.wt_window.proofs.search.+search.Given as goal
+
+abbrev pub decreases-search : goal.decreases-search
+decreases-search l = length l.filled.now - l.at
+
+abbrev pub invariant-tiles : goal.invariant-tiles
+invariant-tiles l = record {
+  long : length l.filled ≡ length l.fn.filled;
+  within : l.at < length l.filled;
+  same : take l.at l.filled ≡ take l.at l.fn.filled;
+  low : l.from ≤ length l.tables.tiles.now;
+  none : (g : List ℕ) → IsFilling l.tables.tiles.now (frame_window l.frame) (cells (frame_window l.frame)) g → take l.at g ≡ take l.at l.fn.filled → get_or g l.at 0 < l.from → ⊥;
+  paid : l.budget ≤ l.left + 1 + tried l.tables.tiles.now (frame_window l.frame) (cells (frame_window l.frame) - (l.at + 1)) (take l.at l.fn.filled) l.from;
+}
+
+abbrev pub decreases-tiles : goal.decreases-tiles
+decreases-tiles l = 257 - l.from

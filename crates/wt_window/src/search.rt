@@ -1,0 +1,236 @@
+//! The search of a window, depth first in reading order.
+ghost use Rattle.std.specs.Prelude.{◌≡◌, ◌≢◌, ◌⊎◌, ℕ, ◌+◌, ◌-◌, ◌*◌, ◌%◌, ◌<◌, ◌≤◌, ◌&&◌, List, length, take, slice_index, slice_set, nat_lt, nat_eq};
+ghost use Rattle.wt_grid.specs.Order.{IsBefore};
+ghost use Rattle.wt_lane.specs.Masks.{mask_bit};
+ghost use Rattle.wt_window.specs.Trials.{IsFilling, cells, may_follow, implies, trials_from, trials};
+ghost use Rattle.wt_window.specs.Trials as spec;
+ghost use Rattle.wt_mask.specs.Masks.{bit, mask_at};
+ghost use Rattle.wt_window.specs.Frames.{frame_window, Stand, IsFrame, IsNext, IsTiled, IsWhole};
+ghost use Rattle.wt_window.specs.Surrounded.{IsLeastWindow};
+ghost use Rattle.wt_pattern.specs.Windows.{window_size, IsEmptyWindow};
+
+use crate::carry::propagate;
+use crate::frame::{Frame, frame_of};
+use crate::tables::Tables;
+use wt_lane::and_into;
+use wt_mask::{next_bit, single};
+use wt_tile::Axis;
+
+/// How a search ends: with a window, with none and so much left of the budget, or with the budget spent.
+#[derive(Clone, Copy, Debug, PartialEq, Eq)]
+pub enum Found {
+    Window,
+    Nothing { left: u64 },
+    Spent,
+}
+
+/// The tiles that match the one to the left of a cell.
+fn beside_left(tables: &Tables<'_>, frame: &Frame, filled: &[u16], at: usize) -> [u64; 4]
+    requires frame { IsFrame (length tables.now.tiles.now) (frame_window frame.now) }
+    requires within { at < length filled.now }
+    requires tiles { (k : ℕ) → k < at → slice_index filled.now k < length tables.now.tiles.now }
+    ensures { (t : ℕ) → mask_bit result t ≡ bit (nat_lt t (length tables.now.tiles.now) && spec.fits_left tables.now.tiles.now (frame_window frame.now) (take at filled.now) t) }
+{
+    if at % frame.width > 0 {
+        tables.right[usize::from(filled[at - 1])]
+    } else {
+        tables.all
+    }
+}
+
+/// The tiles that match the one below a cell.
+fn beside_below(tables: &Tables<'_>, frame: &Frame, filled: &[u16], at: usize) -> [u64; 4]
+    requires frame { IsFrame (length tables.now.tiles.now) (frame_window frame.now) }
+    requires within { at < length filled.now }
+    requires tiles { (k : ℕ) → k < at → slice_index filled.now k < length tables.now.tiles.now }
+    ensures { (t : ℕ) → mask_bit result t ≡ bit (nat_lt t (length tables.now.tiles.now) && spec.fits_below tables.now.tiles.now (frame_window frame.now) (take at filled.now) t) }
+{
+    if frame.width <= at {
+        tables.up[usize::from(filled[at - frame.width])]
+    } else {
+        tables.all
+    }
+}
+
+/// The one tile that may stand in a cell if it is this one, else all tiles.
+fn pinned(tables: &Tables<'_>, cell: usize, tile: u16, at: usize) -> [u64; 4]
+    requires { tile < length tables.now.tiles.now }
+    ensures { (t : ℕ) → mask_bit result t ≡ bit (nat_lt t (length tables.now.tiles.now) && implies (nat_eq at cell) (nat_eq t tile)) }
+{
+    if at == cell {
+        single(usize::from(tile))
+    } else {
+        tables.all
+    }
+}
+
+/// The tiles that may follow the first cells of a filling.
+fn followers(tables: &Tables<'_>, frame: &Frame, filled: &[u16], at: usize) -> [u64; 4]
+    requires frame { IsFrame (length tables.now.tiles.now) (frame_window frame.now) }
+    requires within { at < length filled.now }
+    requires tiles { (k : ℕ) → k < at → slice_index filled.now k < length tables.now.tiles.now }
+    ensures { (t : ℕ) → mask_bit result t ≡ bit (nat_lt t (length tables.now.tiles.now) && may_follow tables.now.tiles.now (frame_window frame.now) (take at filled.now) t) }
+{
+    let mut mask = beside_left(tables, frame, filled, at);
+    and_into(&mut mask, &beside_below(tables, frame, filled, at));
+    and_into(&mut mask, &pinned(tables, frame.first, frame.a, at));
+    and_into(&mut mask, &pinned(tables, frame.second, frame.b, at));
+    mask
+}
+
+/// Leaves one tile alone in a cell's mask.
+fn place(masks: &mut [[u64; 4]; 90], at: usize, tile: usize)
+    requires at { at < 90 }
+    requires tile { tile < 256 }
+    ensures same { (k : ℕ) → k ≢ at → mask_at masks.new k ≡ mask_at masks.old k }
+    ensures alone { mask_bit (mask_at masks.new at) tile ≡ 1 }
+{
+    masks[at] = single(tile);
+}
+
+/// Fills a cell with a tile that may follow, and leaves it alone in the cell's mask.
+fn fill(
+    tables: &Tables<'_>,
+    frame: &Frame,
+    filled: &mut [u16],
+    at: usize,
+    masks: &mut [[u64; 4]; 90],
+    tile: usize,
+)
+    requires frame { IsFrame (length tables.now.tiles.now) (frame_window frame.now) }
+    requires long { length filled.old ≡ cells (frame_window frame.now) }
+    requires within { at < length filled.old }
+    requires begun { IsFilling tables.now.tiles.now (frame_window frame.now) at (take at filled.old) }
+    requires next { IsNext tables.now.tiles.now (frame_window frame.now) (take at filled.old) tile }
+    requires whole { (g : List ℕ) → IsWhole tables.now.tiles.now frame.now g
+        → take at g ≡ take at filled.old → Stand masks.old g }
+    ensures filled { filled.new ≡ slice_set filled.old at tile }
+    ensures begun { IsFilling tables.now.tiles.now (frame_window frame.now) (at + 1) (take (at + 1) filled.new) }
+    ensures whole { (g : List ℕ) → IsWhole tables.now.tiles.now frame.now g
+        → take (at + 1) g ≡ take (at + 1) filled.new → Stand masks.new g }
+{
+    filled[at] = tile as u16;
+    place(masks, at, tile);
+}
+
+/// Fills the cells from one on, the least tiles first, where the masks have all tiles of the windows that
+/// begin with what is filled.
+fn search(
+    tables: &Tables<'_>,
+    frame: &Frame,
+    filled: &mut [u16],
+    at: usize,
+    masks: &mut [[u64; 4]; 90],
+    changed: u128,
+    budget: u64,
+) -> Found
+    requires frame { IsFrame (length tables.now.tiles.now) (frame_window frame.now) }
+    requires long { length filled.old ≡ cells (frame_window frame.now) }
+    requires within { at ≤ length filled.old }
+    requires begun { IsFilling tables.now.tiles.now (frame_window frame.now) at (take at filled.old) }
+    requires whole { (g : List ℕ) → IsWhole tables.now.tiles.now frame.now g
+        → take at g ≡ take at filled.old → Stand masks.old g }
+    ensures same { take at filled.new ≡ take at filled.old }
+    ensures window { result ≡ Found.Window → IsWhole tables.now.tiles.now frame.now filled.new }
+    ensures least { result ≡ Found.Window → (g : List ℕ) → IsWhole tables.now.tiles.now frame.now g
+        → take at g ≡ take at filled.old → (filled.new ≡ g) ⊎ IsBefore filled.new g }
+    ensures nothing { (left : ℕ) → result ≡ Found.Nothing left → (g : List ℕ) → IsWhole tables.now.tiles.now frame.now g
+        → take at g ≡ take at filled.old → ⊥ }
+    ensures paid { (left : ℕ) → result ≡ Found.Nothing left
+        → budget ≤ left + trials_from tables.now.tiles.now (frame_window frame.now) (cells (frame_window frame.now) - at) (take at filled.old) }
+    ensures at_zero { budget ≡ 0 → result ≡ Found.Spent }
+    ensures spent { result ≡ Found.Spent
+        → budget < trials_from tables.now.tiles.now (frame_window frame.now) (cells (frame_window frame.now) - at) (take at filled.old) }
+{
+    if budget == 0 {
+        return Found::Spent;
+    }
+    let mut left = budget - 1;
+    if !propagate(tables, frame, masks, changed) {
+        return Found::Nothing { left };
+    }
+    if at == filled.len() {
+        return Found::Window;
+    }
+    let mut fit = followers(tables, frame, filled, at);
+    and_into(&mut fit, &masks[at]);
+    let mut from = 0usize;
+    'tiles: while let Some(tile) = next_bit(&fit, from) {
+        let mut next = *masks;
+        fill(tables, frame, filled, at, &mut next, tile);
+        let news = if masks[at] == next[at] {
+            0
+        } else {
+            1u128 << at
+        };
+        match search(tables, frame, filled, at + 1, &mut next, news, left) {
+            Found::Nothing { left: rest } => left = rest,
+            Found::Window => return Found::Window,
+            Found::Spent => return Found::Spent,
+        }
+        from = tile + 1;
+    }
+    Found::Nothing { left }
+}
+
+/// The masks of a window before its two tiles are placed: those of all tiles, carried on.
+pub fn open_masks(tables: &Tables<'_>, axis: Axis, radius: u8) -> [[u64; 4]; 90]
+    requires { radius ≤ 4 }
+    ensures { (g : List ℕ) → IsTiled tables.now.tiles.now (window_size axis radius).0 (window_size axis radius).1 g → Stand result g }
+{
+    let frame = frame_of(axis, 0, 0, radius);
+    let mut masks = [tables.all; 90];
+    propagate(tables, &frame, &mut masks, u128::MAX);
+    masks
+}
+
+/// Looks for the least window of a frame.
+fn find_in(
+    tables: &Tables<'_>,
+    frame: &Frame,
+    unplaced: &[[u64; 4]; 90],
+    filled: &mut [u16],
+    budget: u64,
+) -> Found
+    requires frame { IsFrame (length tables.now.tiles.now) (frame_window frame.now) }
+    requires stand { (g : List ℕ) → IsWhole tables.now.tiles.now frame.now g → Stand unplaced.now g }
+    requires long { length filled.old ≡ cells (frame_window frame.now) }
+    ensures window { result ≡ Found.Window → IsWhole tables.now.tiles.now frame.now filled.new }
+    ensures least { result ≡ Found.Window → (g : List ℕ) → IsWhole tables.now.tiles.now frame.now g
+        → (filled.new ≡ g) ⊎ IsBefore filled.new g }
+    ensures nothing { (left : ℕ) → result ≡ Found.Nothing left → (g : List ℕ) → IsWhole tables.now.tiles.now frame.now g → ⊥ }
+    ensures at_zero { budget ≡ 0 → result ≡ Found.Spent }
+    ensures spent { result ≡ Found.Spent → budget < trials tables.now.tiles.now (frame_window frame.now) }
+{
+    let mut masks = *unplaced;
+    place(&mut masks, frame.first, usize::from(frame.a));
+    place(&mut masks, frame.second, usize::from(frame.b));
+    let changed = 1u128 << frame.first | 1u128 << frame.second;
+    search(tables, frame, filled, 0, &mut masks, changed, budget)
+}
+
+/// Looks for the least window of radius `radius` round a and b, b following a along the axis.
+pub fn find(
+    tables: &Tables<'_>,
+    axis: Axis,
+    a: u16,
+    b: u16,
+    radius: u8,
+    unplaced: &[[u64; 4]; 90],
+    filled: &mut [u16],
+    budget: u64,
+) -> Found
+    requires radius { radius ≤ 4 }
+    requires stand { (g : List ℕ) → IsTiled tables.now.tiles.now (window_size axis radius).0 (window_size axis radius).1 g → Stand unplaced.now g }
+    requires first { a < length tables.now.tiles.now }
+    requires second { b < length tables.now.tiles.now }
+    requires long { length filled.old ≡ cells (spec.window axis a b radius) }
+    ensures window { result ≡ Found.Window
+        → IsLeastWindow tables.now.tiles.now axis a b radius (record { width = (spec.window axis a b radius).width; height = (spec.window axis a b radius).height; cells = filled.new }) }
+    ensures nothing { (left : ℕ) → result ≡ Found.Nothing left → IsEmptyWindow tables.now.tiles.now axis a b radius }
+    ensures at_zero { budget ≡ 0 → result ≡ Found.Spent }
+    ensures spent { result ≡ Found.Spent → budget < trials tables.now.tiles.now (spec.window axis a b radius) }
+{
+    let frame = frame_of(axis, a, b, radius);
+    find_in(tables, &frame, unplaced, filled, budget)
+}
