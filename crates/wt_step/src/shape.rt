@@ -1,7 +1,7 @@
 // Lists in order and in range.
 ghost use Rattle.std.specs.Prelude.{◌≡◌, ◌≤◌, length};
 ghost use Rattle.std.specs.List.{list_all};
-ghost use Rattle.wt_grid.specs.Order.{in_order, leads};
+ghost use Rattle.wt_grid.specs.Order.{in_order};
 ghost use Rattle.wt_step.specs.Words as words;
 ghost use Rattle.wt_refute.specs.Entries.{entries_follow};
 ghost use Rattle.wt_step.specs.Faults.{IsShaped};
@@ -10,22 +10,13 @@ ghost use Rattle.wt_step.specs.Faults as faults;
 use crate::order::{numbers_ascend, pairs_ascend};
 use crate::{RawStep, StepFault};
 use wt_morphism::Image;
-use wt_refute::{Refuted, entry_before};
+use wt_refute::{Refuted, entry_leads};
 use wt_tile::{Axis, set_fault};
 
 fn entry_fits(radius: u8, below: usize, entry: &Refuted) -> bool
     ensures { result ≡ words.entry_fits radius below entry.now }
 {
     entry.radius <= radius && usize::from(entry.a) < below && usize::from(entry.b) < below
-}
-
-fn entry_leads(entry: &Refuted, after: &[Refuted]) -> bool
-    ensures { result ≡ leads entries_follow entry.now after.now }
-{
-    match after {
-        [] => true,
-        [next, ..] => entry_before(next.radius, next.axis, next.a, next.b, entry),
-    }
 }
 
 fn entries_ascend(radius: u8, below: usize, entries: &[Refuted]) -> bool

@@ -2,7 +2,6 @@
 // step are walked beside them: a list is read where it stands, and never searched.
 ghost use Rattle.std.specs.Prelude.{◌≡◌, ◌+◌, ◌-◌, ◌^◌, ◌<◌, ◌≤◌, None, Some, MatchResult, length, true, is_some, option_map};
 ghost use Rattle.std.specs.Bool.{OnTrue};
-ghost use Rattle.wt_refute.specs.Entries as refute_entries;
 ghost use Rattle.wt_step.specs.Words as words;
 ghost use Rattle.wt_step.specs.Faults.{IsShaped};
 ghost use Rattle.wt_step.specs.Faults as faults;
@@ -11,8 +10,9 @@ ghost use Rattle.wt_step.specs.Walk.{IsAtPlace, allowed_place, refuted_place};
 use crate::order::is_pair;
 use crate::shape::{allowed, count_tiles};
 use crate::{RawStep, StepFault};
-use wt_refute::{Refuted, check_tree, entry_before};
-use wt_tile::{Axis, SetRef, is_match, same_axis};
+use wt_mask::Sides;
+use wt_refute::{Refuted, check_tree_in, entry_before, is_entry};
+use wt_tile::{Axis, SetRef, is_match};
 
 /// Where the lists of a step stand at a pair of tiles: there they have the pair, or nowhere.
 #[derive(Clone, Copy)]
@@ -63,13 +63,6 @@ fn is_allowed_at(raw: &RawStep, axis: Axis, a: u16, b: u16, place: usize) -> boo
 {
     let pairs = allowed(raw, axis);
     place < pairs.len() && is_pair(a, b, pairs[place])
-}
-
-/// Whether the entry is of this radius, this axis and these two tiles.
-fn is_entry(radius: u8, axis: Axis, a: u16, b: u16, entry: &Refuted) -> bool
-    ensures { result ≡ refute_entries.is_entry radius axis a b entry.now }
-{
-    entry.radius == radius && (same_axis(entry.axis, axis) && is_pair(a, b, (entry.a, entry.b)))
 }
 
 /// Whether the pair is refuted at a radius, read at its place.
@@ -183,6 +176,7 @@ fn is_named_well(raw: &RawStep, axis: Axis, a: u16, b: u16, places: &Places) -> 
 #[tactic(auto, using(crate::proofs::Shaped::refuted_ascend))]
 fn tree_fault_at(
     raw: &RawStep,
+    sides: &Sides<'_>,
     axis: Axis,
     a: u16,
     b: u16,
@@ -190,6 +184,7 @@ fn tree_fault_at(
     places: &Places,
 ) -> Option<StepFault>
     requires shaped { IsShaped raw.now }
+    requires of_fine { sides.now.tiles.now ≡ raw.now.fine.tiles }
     requires placed { IsAtPlace raw.now axis a b places.now }
     requires small { radius ≤ raw.now.radius }
     ensures { result ≡ faults.tree_fault_at raw.now axis a b radius }
@@ -197,8 +192,8 @@ fn tree_fault_at(
     match entry_at(raw, axis, a, b, radius, places.refuted[usize::from(radius)]) {
         None => None,
         Some(entry) => {
-            let set = SetRef::of(&raw.fine);
-            match check_tree(set, axis, a, b, radius, raw.refuted.as_slice(), &entry.tree) {
+            let entries = raw.refuted.as_slice();
+            match check_tree_in(sides, axis, a, b, radius, entries, &entry.tree) {
                 Ok(()) => None,
                 Err(fault) => Some(StepFault::Node {
                     axis,
@@ -212,21 +207,37 @@ fn tree_fault_at(
 }
 
 #[tactic(auto, using(wt_grid::proofs::First::first_more))]
-fn trees_fault(raw: &RawStep, axis: Axis, a: u16, b: u16, places: &Places) -> Option<StepFault>
+fn trees_fault(
+    raw: &RawStep,
+    sides: &Sides<'_>,
+    axis: Axis,
+    a: u16,
+    b: u16,
+    places: &Places,
+) -> Option<StepFault>
     requires shaped { IsShaped raw.now }
+    requires of_fine { sides.now.tiles.now ≡ raw.now.fine.tiles }
     requires placed { IsAtPlace raw.now axis a b places.now }
     ensures { result ≡ faults.trees_fault raw.now axis a b }
 {
     for radius in 0..raw.radius + 1 {
-        if let Some(fault) = tree_fault_at(raw, axis, a, b, radius, places) {
+        if let Some(fault) = tree_fault_at(raw, sides, axis, a, b, radius, places) {
             return Some(fault);
         }
     }
     None
 }
 
-fn pair_fault(raw: &RawStep, axis: Axis, a: u16, b: u16, places: &Places) -> Option<StepFault>
+fn pair_fault(
+    raw: &RawStep,
+    sides: &Sides<'_>,
+    axis: Axis,
+    a: u16,
+    b: u16,
+    places: &Places,
+) -> Option<StepFault>
     requires shaped { IsShaped raw.now }
+    requires of_fine { sides.now.tiles.now ≡ raw.now.fine.tiles }
     requires placed { IsAtPlace raw.now axis a b places.now }
     ensures { result ≡ faults.pair_fault raw.now axis a b }
 {
@@ -234,7 +245,7 @@ fn pair_fault(raw: &RawStep, axis: Axis, a: u16, b: u16, places: &Places) -> Opt
         return Some(StepFault::Pair { axis, a, b });
     }
     if is_barred_here(raw, axis, a, b, places) {
-        trees_fault(raw, axis, a, b, places)
+        trees_fault(raw, sides, axis, a, b, places)
     } else {
         None
     }
@@ -242,8 +253,15 @@ fn pair_fault(raw: &RawStep, axis: Axis, a: u16, b: u16, places: &Places) -> Opt
 
 /// The first fault of a row of pairs, or the places at the next row.
 #[tactic(auto, using(wt_grid::proofs::First::first_more))]
-fn row_fault(raw: &RawStep, axis: Axis, a: u16, at_row: Places) -> Result<Places, StepFault>
+fn row_fault(
+    raw: &RawStep,
+    sides: &Sides<'_>,
+    axis: Axis,
+    a: u16,
+    at_row: Places,
+) -> Result<Places, StepFault>
     requires shaped { IsShaped raw.now }
+    requires of_fine { sides.now.tiles.now ≡ raw.now.fine.tiles }
     requires placed { IsAtPlace raw.now axis a 0 at_row }
     ensures { MatchResult result
         (λ next. (faults.row_fault raw.now axis a ≡ None) × IsAtPlace raw.now axis (a + 1) 0 next)
@@ -251,7 +269,7 @@ fn row_fault(raw: &RawStep, axis: Axis, a: u16, at_row: Places) -> Result<Places
 {
     let mut places = at_row;
     for b in 0..count_tiles(raw) {
-        if let Some(fault) = pair_fault(raw, axis, a, b, &places) {
+        if let Some(fault) = pair_fault(raw, sides, axis, a, b, &places) {
             return Err(fault);
         }
         places = next_places(raw, axis, a, b, &places);
@@ -265,9 +283,10 @@ pub fn pairs_fault(raw: &RawStep, axis: Axis) -> Option<StepFault>
     requires { IsShaped raw.now }
     ensures { result ≡ faults.pairs_fault raw.now axis }
 {
+    let sides = Sides::new(SetRef::of(&raw.fine).tiles());
     let mut places = first_places(raw, axis);
     for a in 0..count_tiles(raw) {
-        match row_fault(raw, axis, a, places) {
+        match row_fault(raw, &sides, axis, a, places) {
             Ok(next) => places = next,
             Err(fault) => return Some(fault),
         }
