@@ -25,7 +25,7 @@ use Rattle.wt_step.proofs.GoodLinks.{good_link, no_link_fault}
 use Rattle.wt_chain.specs.Good.{HasGrown, AreGoodSteps, IsGoodRun, IsGoodLoop, IsGoodEnd, IsGoodChain}
 use Rattle.wt_chain.proofs.Run.{run_from, equal_same_set}
 use Rattle.wt_chain.proofs.Turned.{wide, high}
-use Rattle.wt_chain.proofs.Good.{Parts, parts, no_fault, holds}
+use Rattle.wt_chain.proofs.Good.{Parts, parts, no_fault}
 
 -- Growth.
 

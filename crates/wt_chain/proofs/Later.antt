@@ -1,6 +1,5 @@
 -- Images that ever grow have grown after as many turns as there are tiles.
 use Rattle.std.proofs.Common.{arith, ◌≡◌, ◌≢◌, ◌<◌, ◌≤◌, ◌+◌, ◌-◌, ℕ, zero, suc, List, [], ◌∷◌, length, Option, None, Some, is_none, Bool, true, false, ◌&&◌, ◌||◌, nat_le, min, if◌then◌else◌, refl, sym, ◌∙◌, ap, inl, inr}
-use Rattle.wt_chain.proofs.Good.{holds}
 use Rattle.wt_grid.proofs.Unless.{holds}
 use Rattle.wt_grid.specs.Unless.{unless}
 use Rattle.std.specs.Cmp.{both_ways}

@@ -1,9 +1,9 @@
 -- Steps without a fault are good, and each takes apart the set before it.
-use Rattle.std.proofs.Common.{arith, ◌≡◌, ◌≤◌, ◌+◌, ℕ, zero, suc, List, [], ◌∷◌, drop, length, Bool, true, false, ◌&&◌, nat_eq, Option, None, Some, option_map, Decides, refl, sym, ◌∙◌, ap}
-use Rattle.wt_chain.proofs.Good.{holds}
+use Rattle.std.proofs.Common.{arith, ◌≡◌, ◌≤◌, ◌+◌, ◌-◌, ℕ, zero, suc, List, [], ◌∷◌, drop, take, get_or, length, Bool, true, false, ◌&&◌, nat_eq, Option, None, Some, option_map, Decides, refl, sym, ◌∙◌, ap}
 use Rattle.wt_grid.proofs.Unless.{holds}
 use Rattle.wt_grid.specs.Unless.{unless}
 use Rattle.std.proofs.lemmas.Bool.{and_parts}
+use Rattle.std.proofs.lemmas.List.{take_all}
 use Rattle.std.proofs.lemmas.Bool.Decides.{nat_tests}
 use Rattle.std.proofs.lemmas.Slice.Eq.{slice_eq-Decides, bytes_eq-Decides}
 use Rattle.std.specs.Cmp.Lexicographic.{pointwise}
@@ -116,3 +116,10 @@ few_numbers link links renaming h e =
 pub closes : (loop : List RawLink) (renaming : List ℕ) → IsRun loop → IsRenamed loop renaming → IsClosedBy loop renaming
 closes [] renaming run same = absurd same
 closes (link ∷ links) renaming run same = (run, same)
+
+-- the steps, told by the first of them
+pub first_of_steps : (links : List RawLink) (link : RawLink) → 1 ≤ length links → link ≡ get_or links 0 link → links ≡ link ∷ take (length links - 1) (drop 1 links)
+first_of_steps [] link le e = absurd (omega arith)
+first_of_steps (l ∷ ls) link le e =
+    let n : length (l ∷ ls) - 1 ≡ length ls = omega arith in
+    rw (n, take_all (length ls) ls (omega arith)) (ap (λ (x : RawLink). x ∷ ls) (sym e))

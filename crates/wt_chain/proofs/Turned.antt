@@ -223,3 +223,8 @@ pub high : (loop : List RawLink) (renaming : List ℕ) (n t : ℕ) → (turned_t
 high loop renaming n t =
     sym (row_long Two (turned_times loop renaming n (single t)))
     ∙ (ap length (times_row Two loop renaming n (single t) (record { wide = omega arith; high = omega arith; whole = refl })) ∙ one_width (turn_stages Two loop renaming n) t)
+
+-- one turn more, put behind the others
+pub turned_last : (loop : List RawLink) (renaming : List ℕ) (n : ℕ) (g : Grid) → turned_times loop renaming (suc n) g ≡ turned loop renaming (turned_times loop renaming n g)
+turned_last loop renaming zero g = refl
+turned_last loop renaming (suc n) g = turned_last loop renaming n (turned loop renaming g)

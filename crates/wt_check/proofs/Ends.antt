@@ -34,7 +34,8 @@ use Rattle.wt_check.specs.declared.corners.Corner.{Corner}
 use Rattle.wt_check.specs.Corners.{end_place, corner_of, is_far, corner_under, corner_through, AreTableOf, AreCorners}
 use Rattle.wt_check.proofs.Powers.{back_valid, turn_valid, single_valid}
 use Rattle.wt_check.proofs.Pushed.{origins_at}
-use Rattle.wt_check.proofs.Pulled.{second_fits, step_at, count_few}
+use Rattle.wt_check.proofs.Pulled.{step_at, count_few}
+use Rattle.wt_chain.proofs.Grown.{second_fits}
 
 -- ---- the first and the last line
 

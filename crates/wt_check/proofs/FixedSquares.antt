@@ -175,19 +175,21 @@ module _ (loop : List RawLink) (renaming : List ℕ) (q : ℕ) where
   square_told a b c d f =
       let below = f.pattern.1 in
       let valid = f.pattern.2 in
+      let o : 0 < 2 = omega arith in
+      let l : 1 < 2 = omega arith in
       record {
-        below_a = below 0 0 (omega arith) (omega arith);
-        below_b = below 1 0 (omega arith) (omega arith);
-        below_c = below 0 1 (omega arith) (omega arith);
-        below_d = below 1 1 (omega arith) (omega arith);
+        below_a = below 0 0 o o;
+        below_b = below 1 0 l o;
+        below_c = below 0 1 o l;
+        below_d = below 1 1 l l;
         fixed_a = fixed_equal corners.upper_right a f.lower_left;
         fixed_b = fixed_equal corners.upper_left b f.lower_right;
         fixed_c = fixed_equal corners.lower_right c f.upper_left;
         fixed_d = fixed_equal corners.lower_left d f.upper_right;
-        lower = valid One 0 0 (omega arith) (omega arith);
-        left = valid Two 0 0 (omega arith) (omega arith);
-        upper = valid One 0 1 (omega arith) (omega arith);
-        right = valid Two 0 1 (omega arith) (omega arith);
+        lower = valid One 0 0 l o;
+        left = valid Two 0 0 l o;
+        upper = valid One 0 1 l l;
+        right = valid Two 0 1 l l;
       }
 
   pub fixed_squares : (a b c d : ℕ) → Contains (loop_seeds loop renaming q) (a ∷ b ∷ c ∷ d ∷ []) ↔ IsFixedSquare loop renaming q a b c d

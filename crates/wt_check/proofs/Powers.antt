@@ -1,6 +1,6 @@
 -- How often tiles stand in what turns of a loop make of a rectangle.
 use Rattle.std.proofs.Common.{arith, ◌≡◌, ◌<◌, ◌≤◌, ◌+◌, ◌-◌, ◌*◌, ◌/◌, ◌%◌, ◌^◌, ℕ, zero, suc, List, [], ◌∷◌, length, take, drop, map, get_or, slice_index, Bool, true, false, nat_eq, if◌then◌else◌, Option, Some, None, MatchOption, inl, inr, refl, sym, ◌∙◌, ap, subst}
-use Rattle.wt_chain.proofs.Turned.{piece_of, piece_is, tiles_are, tiles_at}
+use Rattle.wt_chain.proofs.Turned.{piece_of, piece_is, tiles_are, tiles_at, turned_last}
 use Rattle.wt_tile.specs.Matching.{matches}
 use Rattle.wt_grid.specs.declared.image.Image.TheVariants.{One as Single, Two as Double}
 use Rattle.wt_grid.specs.declared.image.Image.{Image}
@@ -204,17 +204,7 @@ none_above n u (x ∷ xs) le h =
 
 -- ---- turns
 
-pub once_more : (loop : List RawLink) (renaming : List ℕ) (n : ℕ) (g : Grid) → turned_times loop renaming (suc n) g ≡ turned loop renaming (turned_times loop renaming n g)
-once_more loop renaming zero g = refl
-once_more loop renaming (suc n) g = once_more loop renaming n (turned loop renaming g)
-
 -- ---- steps one by one
-
-pub first_of_steps : (links : List RawLink) (link : RawLink) → 1 ≤ length links → link ≡ get_or links 0 link → links ≡ link ∷ take (length links - 1) (drop 1 links)
-first_of_steps [] link le e = absurd (omega arith)
-first_of_steps (l ∷ ls) link le e =
-    let n : length (l ∷ ls) - 1 ≡ length ls = omega arith in
-    rw (n, take_all (length ls) ls (omega arith)) (ap (λ (x : RawLink). x ∷ ls) (sym e))
 
 -- what counts say of a rectangle
 abbrev pub Tell : Option (List ℕ) → Grid → Type 0
@@ -304,13 +294,13 @@ module _ (loop : List RawLink) (renaming : List ℕ) (closed : IsClosed loop ren
     large_power k zero h = let e : k + 0 ≡ k = omega arith in rw e h
     large_power k (suc n) h =
         let e : k + suc n ≡ suc (k + n) = omega arith in
-        rw (e, once_more loop renaming (k + n) (single t)) (large_turn (power loop renaming (k + n) t) (power_valid (k + n)) (large_power k n h))
+        rw (e, turned_last loop renaming (k + n) (single t)) (large_turn (power loop renaming (k + n) t) (power_valid (k + n)) (large_power k n h))
 
     -- one turn on
     pub turn_tells : (ns : List ℕ) (o : Option (List ℕ)) (n : ℕ) → TellsTurn loop renaming ns o → AreCounts ns (power loop renaming n t) → Tell o (power loop renaming (n + 1) t)
     turn_tells ns o n tells counts =
         let e : n + 1 ≡ suc n = omega arith in
-        rw (e, once_more loop renaming n (single t)) (tells closed (power loop renaming n t) (power_valid n) counts)
+        rw (e, turned_last loop renaming n (single t)) (tells closed (power loop renaming n t) (power_valid n) counts)
 
     -- counts that are numbers below 2^128 are not too large, and no earlier ones were
     pub not_large : (ns : List ℕ) (n : ℕ) → AreCounts ns (power loop renaming n t) → ((u : ℕ) → slice_index ns u < 2 ^ 128) → IsTooLarge loop renaming n t → ⊥
