@@ -65,6 +65,14 @@ is_forest citing zero (t ∷ ts) = false
 is_forest citing (suc n) (tile ∷ cell ∷ count ∷ ts) = (is_decimal tile && is_decimal cell && is_ending (ending citing count)) && is_forest citing (n + owed_by (ending citing count)) ts
 is_forest citing (suc n) ts = false
 
+-- no number of children from 1 on stands here
+abbrev pub IsNoForest : Bool → List (List ℕ) → Type 0
+IsNoForest citing ts = (n : ℕ) → is_forest citing (suc n) ts ≡ false
+
+-- the first child of these owes so many, and the rest follows it
+abbrev pub IsForestOf : Bool → List (List ℕ) → ℕ → List (List ℕ) → Type 0
+IsForestOf citing ts owed rest = (n : ℕ) → is_forest citing (suc n) ts ≡ is_forest citing (n + owed) rest
+
 -- the tokens are one tree
 abbrev pub is_tree : Bool → List (List ℕ) → Bool
 is_tree citing (cell ∷ count ∷ ts) = (is_decimal cell && is_ending (ending citing count)) && is_forest citing (owed_by (ending citing count)) ts

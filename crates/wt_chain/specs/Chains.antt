@@ -3,6 +3,7 @@ use Rattle.std.specs.Prelude.{ℕ, ◌+◌, ◌≡◌, ◌<◌, ◌≤◌, List,
 use Rattle.wt_step.specs.declared.raw.RawLink.{RawLink}
 use Rattle.wt_chain.specs.declared.raw.RawChain.{RawChain}
 use Rattle.wt_chain.specs.declared.raw.Version.{Version}
+use Rattle.wt_chain.specs.declared.raw.End.TheVariants.{Loop}
 use Rattle.wt_chain.specs.declared.push.PushFault.{PushFault}
 use Rattle.wt_chain.specs.declared.push.PushFault.TheVariants.{NotNext, TooMany}
 use Rattle.wt_chain.specs.Versions.{version_of}
@@ -15,6 +16,10 @@ pub record IsOpen (links : List RawLink) (version : Version) : Type 0 where
   pub few : length links ≤ 32
   pub good : steps_fault links ≡ None
   pub fits : version ≡ version_of links
+
+-- the chain of these steps, closed to a loop
+abbrev pub looped : List RawLink → ℕ → List ℕ → ℕ → RawChain
+looped links start renaming expansion = record { version = version_of links; steps = links; end = Loop start renaming expansion }
 
 -- why a step can't be put behind these
 abbrev pub push_fault : List RawLink → RawLink → Option PushFault

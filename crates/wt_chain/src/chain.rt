@@ -128,7 +128,7 @@ impl Chain {
         expansion: u32,
     ) -> Result<Accepted, (Chain, Vec<u16>, Refusal)>
         ensures ok { IfOk result (λ chain. (fault_words.end_fault self (Loop start renaming.items expansion) ≡ None)
-            × (chain ≡ record { version = versions.version_of self; steps = self; end = Loop start renaming.items expansion })) }
+            × (chain ≡ chains.looped self start renaming.items expansion)) }
         ensures err { IfErr result (λ e. (fault_words.end_fault self (Loop start renaming.items expansion) ≡ Some e.2)
             × (e.0 ≡ self) × (e.1.items ≡ renaming.items)) }
     {

@@ -1,5 +1,5 @@
 -- What holds of a good chain: its steps take patterns apart in exactly one way, and where it is looped, there are valid patterns of every size over its first set, and no large one has a period.
-use Rattle.std.specs.Prelude.{◌≡◌, ◌⊎◌, ◌^◌, ◌<◌, ◌≤◌, ℕ, ℤ, List, slice_get, Some}
+use Rattle.std.specs.Prelude.{◌≡◌, ◌⊎◌, ◌^◌, ◌<◌, ◌≤◌, ◌∷◌, ℕ, ℤ, List, slice_get, Some}
 use Rattle.wt_grid.specs.Grid.{Grid, IsGrid}
 use Rattle.wt_tile.specs.declared.tile.Tile.{Tile}
 use Rattle.wt_pattern.specs.Patterns.{IsPattern}
@@ -40,6 +40,10 @@ HasEverySize chain = (loop : IsLooped chain)
 -- a vector is no period of any valid pattern that is at least this wide and high
 abbrev pub HasNoPeriodFrom : List Tile → ℕ → ℤ → ℤ → Type 0
 HasNoPeriodFrom tiles size x y = (p : Grid) → IsPattern tiles p → size ≤ p.width → size ≤ p.height → IsPeriod p x y → ⊥
+
+-- the same of the chain's first set
+abbrev pub IsExcludedFrom : RawChain → ℕ → ℤ → ℤ → Type 0
+IsExcludedFrom chain size x y = (first : RawLink) (rest : List RawLink) → chain.steps ≡ first ∷ rest → HasNoPeriodFrom (fine_of first).tiles size x y
 
 -- Where the chain is looped, no nonzero vector is a period of any valid pattern over its first set that is large enough: for components up to m and k with m < 2^k, as large as `size_of` says.
 abbrev pub HasNoPeriod : RawChain → Type 0

@@ -21,7 +21,7 @@ ghost use Rattle.wt_chain.specs.Sets.{AreLinked};
 ghost use Rattle.wt_chain.specs.Turns.{renamed_back, turned_times};
 ghost use Rattle.wt_chain.specs.Good.{IsGoodLoop, IsGoodChain};
 ghost use Rattle.wt_scale.specs.Loops.{loop_pick};
-ghost use Rattle.wt_scale.specs.Holds.{HasNoPeriod, HasNoPeriodFrom, HasEverySize, Holds};
+ghost use Rattle.wt_scale.specs.Holds.{HasNoPeriod, IsExcludedFrom, HasEverySize, Holds};
 ghost use Rattle.wt_scale.specs.Vectors.{digits, size_result};
 ghost use Rattle.wt_scale.specs.Scales.{HasCoarsePeriods};
 ghost use Rattle.wt_scale.specs.Existence.{HasMarkerImage, HasValidImage, IsSameSized, HasDoubling, IsPatternOf};
@@ -102,6 +102,5 @@ pub fn digits_are_least()
 /// Where a good chain has a size for a vector, no valid pattern over its first set that is at least as wide and
 /// as high as this size has the vector as a period.
 pub fn sizes_exclude_periods()
-    ensures { (c : RawChain) → chain_fault c ≡ None → (first : RawLink) (rest : List RawLink) → c.steps ≡ first ∷ rest
-        → (x y : ℤ) (size : ℕ) → size_result c x y ≡ Ok size → HasNoPeriodFrom (fine_of first).tiles size x y }
+    ensures { (c : RawChain) → chain_fault c ≡ None → (x y : ℤ) (size : ℕ) → size_result c x y ≡ Ok size → IsExcludedFrom c size x y }
 {}

@@ -11,7 +11,7 @@ use Rattle.wt_grid.proofs.CarriedGrids.{core_repeated}
 use Rattle.wt_grid.proofs.SingleImages.{NoPairs, StandsFor, cells_stand}
 use Rattle.wt_step.specs.declared.raw.RawRestrict.{RawRestrict}
 use Rattle.wt_step.specs.Good.{IsGoodRestrict}
-use Rattle.wt_step.specs.Meaning.{kept_pieces, IsRestrictDesubstitution}
+use Rattle.wt_step.specs.Meaning.{kept_pieces, IsRestriction}
 use Rattle.wt_step.specs.Carried.{magnitude}
 use Rattle.wt_step.proofs.Restricted.{kept_once}
 use Rattle.wt_step.proofs.SignedPeriods.{are_opposed, to_vector, from_vector, own_sign}
@@ -43,7 +43,7 @@ module _ (s : RawRestrict) (g : IsGoodRestrict s) where
       let e : at One c i (j + a) ≡ at One c (i + d) (j + b) = h i j (omega arith) (omega arith) (omega arith) in
       kept_apart (at One q i (j + a)) (at One q (i + d) (j + b)) (at One c i (j + a)) x (y ∙ ap (λ (z : ℕ). Some (Single z)) (sym e))
 
-  pub kept_period : (p q : Grid) → IsGrid q → IsRestrictDesubstitution s p q → 1 ≤ (core s.radius p).height → (x y : ℤ) → IsPeriodAlong One p x y → IsPeriodAlong One q x y
+  pub kept_period : (p q : Grid) → IsGrid q → IsRestriction s p q → 1 ≤ (core s.radius p).height → (x y : ℤ) → IsPeriodAlong One p x y → IsPeriodAlong One q x y
   kept_period p q iq i some x y h =
       let c = core s.radius p in
       let o = are_opposed x y in

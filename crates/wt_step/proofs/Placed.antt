@@ -16,7 +16,7 @@ use Rattle.wt_pattern.specs.Patterns.{IsPattern}
 use Rattle.wt_step.specs.declared.raw.RawRestrict.{RawRestrict}
 use Rattle.wt_step.specs.Restrict.{kept_at}
 use Rattle.wt_step.specs.Good.{IsGoodRestrict}
-use Rattle.wt_step.specs.Meaning.{kept_pieces, IsRestrictDesubstitution}
+use Rattle.wt_step.specs.Meaning.{kept_pieces, IsRestriction}
 use Rattle.wt_step.specs.Blocks.{cell_at, kept_tile, IsPlaced}
 use Rattle.wt_step.proofs.Restricted.{core_kept, kept_place, kept_once, count_kept, some_kept, one_kept}
 use Rattle.wt_step.proofs.Tables.{some_of}
@@ -85,7 +85,7 @@ module _ (s : RawRestrict) (g : IsGoodRestrict s) where
     abbrev it : Grid
     it = grid_of (core s.radius p).width (core s.radius p).height (kept_tile s p places)
 
-    kept : IsRestrictDesubstitution s p it
+    kept : IsRestriction s p it
     kept = stand_image (kept_pieces s) One it (core s.radius p) (
       refl,
       refl,
@@ -94,7 +94,7 @@ module _ (s : RawRestrict) (g : IsGoodRestrict s) where
     )
 
     -- the rectangle of the places is the coarse one of the law
-    pub placed_kept : IsRestrictDesubstitution s p it × IsPattern s.coarse.tiles it
+    pub placed_kept : IsRestriction s p it × IsPattern s.coarse.tiles it
     placed_kept =
         let q = some_kept s g p h lw lh in
         let pat : IsPattern s.coarse.tiles q.0 = q.2 in

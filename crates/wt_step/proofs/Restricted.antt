@@ -33,7 +33,7 @@ use Rattle.wt_step.specs.declared.raw.RawRestrict.{RawRestrict}
 use Rattle.wt_step.specs.declared.raw.StepFault.TheVariants.{Radius, Fine, Coarse, Kept, LostList, LostNode, Join}
 use Rattle.wt_step.specs.Restrict.{kept_fit, lost_fit, is_kept, is_lost, loses, sorted_fault_at, lost_fault, lost_fault_at, kept_at, kept_match, kept_join_at, kept_join_row, kept_join_fault, sorting_fault, use_fault, restrict_fault}
 use Rattle.wt_step.specs.Good.{IsGoodRestrict}
-use Rattle.wt_step.specs.Meaning.{kept_pieces, IsRestrictDesubstitution}
+use Rattle.wt_step.specs.Meaning.{kept_pieces, IsRestriction}
 use Rattle.wt_step.proofs.Sorted.{sorted}
 use Rattle.wt_step.proofs.Faultless.{none_both}
 use Rattle.wt_step.proofs.Tables.{some_of, has_some}
@@ -197,7 +197,7 @@ module _ (s : RawRestrict) (g : IsGoodRestrict s) where
       kept_joined Two i j x.0 y.0 x.1 y.1 m'
 
   -- each valid rectangle whose core has a cell has a coarse one, and that is valid
-  pub some_kept : (c : Grid) → IsPattern s.fine.tiles c → 1 ≤ (core s.radius c).width → 1 ≤ (core s.radius c).height → (q : Grid) × IsRestrictDesubstitution s c q × IsPattern s.coarse.tiles q
+  pub some_kept : (c : Grid) → IsPattern s.fine.tiles c → 1 ≤ (core s.radius c).width → 1 ≤ (core s.radius c).height → (q : Grid) × IsRestriction s c q × IsPattern s.coarse.tiles q
   some_kept c p lw lh =
       let d = core s.radius c in
       let ls = lines One d in
@@ -240,7 +240,7 @@ module _ (s : RawRestrict) (g : IsGoodRestrict s) where
   }
 
   -- and no other
-  pub one_kept : (c q r : Grid) → 1 ≤ (core s.radius c).height → IsGrid q → IsGrid r → IsRestrictDesubstitution s c q → IsRestrictDesubstitution s c r → q ≡ r
+  pub one_kept : (c q r : Grid) → 1 ≤ (core s.radius c).height → IsGrid q → IsGrid r → IsRestriction s c q → IsRestriction s c r → q ≡ r
   one_kept c q r lh iq ir i j =
       let d = core s.radius c in
       same_lines One q r iq ir (one_parse plain plain_good (lines One d) (lines One q) (lines One r) (filled_long d.height (lines One d) lh (long_lines One d)) i j)

@@ -1,5 +1,5 @@
 -- How a pattern is read: blocks of one or two lines, and the coarse tile of each.
-use Rattle.std.specs.Prelude.{ℕ, zero, suc, ◌+◌, ◌*◌, ◌/◌, ◌%◌, ◌<◌, ◌≡◌, Bool, true, false, ◌&&◌, nat_lt, List, [], ◌∷◌, length, slice_get, slice_index, slice_index_or, slice_set, Some, if◌then◌else◌}
+use Rattle.std.specs.Prelude.{ℕ, zero, suc, ◌+◌, ◌-◌, ◌*◌, ◌/◌, ◌%◌, ◌<◌, ◌≡◌, Bool, true, false, ◌&&◌, nat_lt, List, [], ◌∷◌, length, slice_get, slice_index, slice_index_or, slice_set, Some, if◌then◌else◌}
 use Rattle.wt_grid.specs.declared.image.Image.TheVariants.{One as Single, Two as Double}
 use Rattle.wt_grid.specs.declared.image.Image.{Image}
 use Rattle.wt_grid.specs.declared.axis.Axis.TheVariants.{One, Two}
@@ -9,6 +9,7 @@ use Rattle.wt_step.specs.declared.raw.RawStep.{RawStep}
 use Rattle.wt_step.specs.declared.raw.RawRestrict.{RawRestrict}
 use Rattle.wt_step.specs.declared.blocks.Block.{Block}
 use Rattle.wt_step.specs.Words.{is_marker, joined, ends_block}
+use Rattle.wt_step.specs.Cores.{core_length}
 
 -- cell j of line i, or 0 outside
 abbrev pub cell_at : Grid → Axis → ℕ → ℕ → ℕ
@@ -87,6 +88,10 @@ coarse_grid s p singles pairs blocks axis m = grid_of (width_of axis (length blo
 abbrev pub one_if : Bool → ℕ
 one_if true = 1
 one_if false = 0
+
+-- the blocks of the core without its first line, where that is cut, and its last, where that is cut
+abbrev pub core_blocks : RawStep → Grid → Bool → Bool → List Block
+core_blocks s p low high = blocks_in (pairs_at s p) false (one_if low) (core_length s p - (one_if low + one_if high))
 
 -- whether line i of the core ends a block
 abbrev pub ends_at : RawStep → Grid → ℕ → Bool

@@ -13,12 +13,12 @@ use Rattle.wt_step.specs.Words.{is_marker, ends_block}
 use Rattle.wt_step.specs.Links.{fine_of, coarse_of}
 use Rattle.wt_step.specs.Cores.{core_length, core_width}
 use Rattle.wt_pattern.specs.Patterns.{IsPattern}
-use Rattle.wt_step.specs.Meaning.{cut_core, IsMarkerDesubstitution, IsRestrictDesubstitution}
+use Rattle.wt_step.specs.Meaning.{cut_core, IsMarkerDesubstitution, IsRestriction}
 
 -- the coarse pattern q has the cut core of p as its image
 abbrev pub IsDesubstitution : RawLink → Grid → Grid → Type 0
 IsDesubstitution (Marker s) p q = IsMarkerDesubstitution s p q
-IsDesubstitution (Restrict s) p q = IsRestrictDesubstitution s p q
+IsDesubstitution (Restrict s) p q = IsRestriction s p q
 
 -- A rectangle has the step's margin where its core has three lines along the step's axis and one cell across it; for a restrict step, where its core has a cell.
 abbrev pub HasMargin : RawLink → Grid → Type 0

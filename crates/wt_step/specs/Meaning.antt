@@ -41,8 +41,8 @@ abbrev pub kept_pieces : RawRestrict → List Image
 kept_pieces s = map Single s.kept
 
 -- the coarse rectangle q has the whole core of g as its image
-abbrev pub IsRestrictDesubstitution : RawRestrict → Grid → Grid → Type 0
-IsRestrictDesubstitution s g q = IsImage (kept_pieces s) (lines One q) (lines One (core s.radius g))
+abbrev pub IsRestriction : RawRestrict → Grid → Grid → Type 0
+IsRestriction s g q = IsImage (kept_pieces s) (lines One q) (lines One (core s.radius g))
 
 -- each cell of a rectangle is a kept tile
 abbrev pub IsAllKept : RawRestrict → Grid → Type 0

@@ -7,7 +7,7 @@ ghost use Rattle.wt_pattern.specs.Shape.{IsShape};
 ghost use Rattle.wt_step.specs.Words as words;
 ghost use Rattle.wt_step.specs.Good.{IsGoodStep};
 ghost use Rattle.wt_step.specs.Meaning.{IsMarkerDesubstitution};
-ghost use Rattle.wt_step.specs.Blocks.{pairs_at, blocks_in, coarse_grid};
+ghost use Rattle.wt_step.specs.Blocks.{coarse_grid};
 ghost use Rattle.wt_step.specs.Blocks as block_words;
 ghost use Rattle.wt_step.specs.Cores.{core_length, core_width};
 ghost use Rattle.wt_step.specs.Coarse.{is_marked};
@@ -76,8 +76,7 @@ fn core_blocks(
     requires { 3 ≤ core_length raw.now p.now }
     ensures some { IfOk result (λ blocks. 1 ≤ length blocks.items) }
     ensures few { IfOk result (λ blocks. length blocks.items ≤ 4096) }
-    ensures value { IfOk result (λ blocks. blocks.items ≡ blocks_in (pairs_at raw.now p.now) false (block_words.one_if low)
-        (core_length raw.now p.now - (block_words.one_if low + block_words.one_if high))) }
+    ensures value { IfOk result (λ blocks. blocks.items ≡ block_words.core_blocks raw.now p.now low high) }
 {
     let lines = core_lines(p, raw.axis, raw.radius) as u16;
     find_blocks(alloc, raw, p, one_if(low), lines - one_if(high))

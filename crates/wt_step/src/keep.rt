@@ -4,7 +4,7 @@ ghost use Rattle.wt_grid.specs.Grid.{listed, grid_of};
 ghost use Rattle.wt_grid.specs.Parts.{core};
 ghost use Rattle.wt_pattern.specs.Patterns.{IsPattern};
 ghost use Rattle.wt_step.specs.Good.{IsGoodRestrict};
-ghost use Rattle.wt_step.specs.Meaning.{IsRestrictDesubstitution};
+ghost use Rattle.wt_step.specs.Meaning.{IsRestriction};
 ghost use Rattle.wt_step.specs.Blocks.{IsPlaced, kept_cell};
 ghost use Rattle.wt_step.specs.Blocks as spec;
 
@@ -113,7 +113,7 @@ pub fn keep(alloc: Global, raw: &RawRestrict, p: &Pattern) -> Result<Pattern, Al
     requires pattern { IsPattern raw.now.fine.tiles p.now }
     requires wide { 1 ≤ (core raw.now.radius p.now).width }
     requires high { 1 ≤ (core raw.now.radius p.now).height }
-    ensures kept { IfOk result (λ q. IsRestrictDesubstitution raw.now p.now q) }
+    ensures kept { IfOk result (λ q. IsRestriction raw.now p.now q) }
     ensures valid { IfOk result (λ q. IsPattern raw.now.coarse.tiles q) }
 {
     let places = place_kept(alloc, raw)?;

@@ -10,7 +10,7 @@ ghost use Rattle.wt_step.specs.Restrict as restrict;
 ghost use Rattle.wt_step.specs.Good.{IsGoodStep, IsGoodRestrict, IsGoodLink};
 ghost use Rattle.wt_step.specs.Links as links;
 ghost use Rattle.wt_step.specs.declared.raw.RawLink.{RawLink};
-ghost use Rattle.wt_step.specs.Meaning.{allowing, IsAllKept, IsMarkerDesubstitution, IsRestrictDesubstitution};
+ghost use Rattle.wt_step.specs.Meaning.{allowing, IsAllKept, IsMarkerDesubstitution, IsRestriction};
 ghost use Rattle.wt_step.specs.Cores.{core_lines, core_width, HasSharedBlocks};
 ghost use Rattle.wt_step.specs.declared.raw.RawLink.TheVariants.{Marker, Restrict};
 ghost use Rattle.wt_step.specs.Coarse.{HasMargin, HasValidDesubstitution, has_margin, lines_with_cuts};
@@ -73,5 +73,5 @@ pub fn restricts()
     ensures some { (s : RawRestrict) → restrict.restrict_fault s ≡ None → (p : Grid) → IsPattern s.fine.tiles p
         → HasMargin (Restrict s) p → HasValidDesubstitution (Restrict s) p }
     ensures one { (s : RawRestrict) → restrict.restrict_fault s ≡ None → (p q r : Grid) → 1 ≤ (core s.radius p).height
-        → IsGrid q → IsGrid r → IsRestrictDesubstitution s p q → IsRestrictDesubstitution s p r → q ≡ r }
+        → IsGrid q → IsGrid r → IsRestriction s p q → IsRestriction s p r → q ≡ r }
 {}

@@ -1,7 +1,7 @@
 // The form of a tree in a line.
 ghost use Rattle.std.specs.Prelude.{◌≡◌, ◌<◌, ◌+◌, ◌-◌, ◌^◌, length, MatchOption, IfSome, ℕ, suc, false};
 ghost use Rattle.wt_line.specs.Given.{left};
-ghost use Rattle.wt_cert.specs.Trees.{is_tree, is_forest, held_owed, ending};
+ghost use Rattle.wt_cert.specs.Trees.{is_tree, is_forest, IsNoForest, IsForestOf, held_owed, ending};
 ghost use Rattle.wt_line.specs.Left.{tokens_left, room_left};
 
 use wt_line::{Rest, is_decimal, next_token, number};
@@ -20,7 +20,7 @@ fn owed_by(citing: bool, token: &[u8]) -> Option<u64>
 
 /// One child with its node: what the node owes, and what is left.
 fn next_child(citing: bool, rest: Rest<'_>) -> Option<(u64, Rest<'_>)>
-    ensures form { MatchOption result ((n : ℕ) → is_forest citing (suc n) (tokens_left rest.entry) ≡ false) (λ x. (n : ℕ) → is_forest citing (suc n) (tokens_left rest.entry) ≡ is_forest citing (n + x.0) (tokens_left x.1)) }
+    ensures form { MatchOption result (IsNoForest citing (tokens_left rest.entry)) (λ x. IsForestOf citing (tokens_left rest.entry) x.0 (tokens_left x.1)) }
     ensures fewer { IfSome result (λ x. room_left x.1 < room_left rest.entry) }
     ensures few { IfSome result (λ x. length (tokens_left x.1) < 2 ^ 64 - 1) }
 {

@@ -3,4 +3,4 @@ use Rattle.wt_scale.proofs.SizeLaws.{excluded}
 use Rattle.wt_scale.proofs.laws.sizes_exclude_periods.Goals as goal
 
 pub returns : goal.returns
-returns c = λ chain e. excluded chain (good chain e)
+returns c = λ chain e x y size h first rest steps. excluded chain (good chain e) first rest steps x y size h
