@@ -4,7 +4,7 @@ ghost use Rattle.wt_morphism.specs.Strands.{tile_of};
 ghost use Rattle.wt_chain.specs.Tables.{entries_of};
 ghost use Rattle.wt_chain.specs.Growth.{origin};
 ghost use Rattle.wt_check.specs.Powers.{IsClosed};
-ghost use Rattle.wt_check.specs.Corners.{is_far, corner_under, corner_through, AreCorners, AreTableOf};
+ghost use Rattle.wt_check.specs.Corners.{is_far, corner_under, AreCorners, IsCarriedTable};
 
 use wt_chain::{image_of, is_along, origins};
 use wt_morphism::Image;

@@ -53,8 +53,8 @@ pub fn desubstitutes()
     ensures others { (s : RawStep) → faults.step_fault s ≡ None → (p q r : Grid) → 1 ≤ core_width s p → IsGrid r → IsMarkerDesubstitution s p q → HasSharedBlocks s p q r }
 {}
 
-/// The lines of a core are the first line, where it is cut, then the cut core, and then the last line, where
-/// that is cut.
+/// The lines of a core with the margin are the first line, where it is cut, then the cut core, and then the last
+/// line, where that is cut.
 pub fn cuts_are_the_border_lines()
     ensures { (s : RawStep) (p : Grid) → has_margin (Marker s) p ≡ true → core_lines s p ≡ lines_with_cuts s p }
 {}

@@ -35,7 +35,7 @@ fn counts_tiles_after_turns(rt: HostRuntime) -> Result<(), Fail> {
     let alloc = rt.alloc();
     let chain = chain_of(alloc, cu()).ok_or("chain")?;
     let counts = census(alloc, &chain, 4, 0).ok().ok_or("counts")?;
-    assert_eq!(rt; counts.as_slice() == COUNTS, true);
+    assert_eq!(rt; counts.as_slice() == COUNTS.as_slice(), true);
     assert_eq!(rt;
         census(alloc, &chain, 4096, 0).err(),
         Some(CensusFault::TooLarge)
@@ -53,7 +53,7 @@ fn lists_seeds(rt: HostRuntime) -> Result<(), Fail> {
     let looped = chain_of(alloc, cu()).ok_or("looped")?;
     let open = chain_of(alloc, ONE_STEP).ok_or("open")?;
     let found = seeds(alloc, &looped, 2).ok().ok_or("seeds")?;
-    assert_eq!(rt; found.as_slice() == SEEDS, true);
+    assert_eq!(rt; found.as_slice() == SEEDS.as_slice(), true);
     assert_eq!(rt; seeds(alloc, &open, 2).err(), Some(SeedFault::OpenChain));
     Ok(())
 }
