@@ -1,0 +1,9 @@
+pub mod Products
+pub mod WholeRing
+pub mod Order
+pub mod Signs
+pub mod Sizes
+pub mod Divisors
+pub mod Lowest
+pub mod Canonical
+pub mod FractionOrder
