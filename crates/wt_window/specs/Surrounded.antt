@@ -1,5 +1,5 @@
 -- Which pairs of tiles have a window, and the least window in reading order.
-use Rattle.std.specs.Prelude.{◌≡◌, ◌⊎◌, ◌↔◌, ℕ, ◌<◌, Bool, true, nat_eq, nat_lt, List, length, take, slice_index}
+use Rattle.std.specs.Prelude.{◌≡◌, ◌⊎◌, ◌↔◌, ℕ, ◌<◌, Bool, true, nat_eq, nat_lt, List, length}
 use Rattle.wt_grid.specs.Order.{IsBefore}
 use Rattle.wt_grid.specs.declared.axis.Axis.TheVariants.{One, Two}
 use Rattle.wt_grid.specs.declared.axis.Axis.{Axis}

@@ -8,6 +8,8 @@ mod frame;
 mod laws;
 mod search;
 mod tables;
+#[cfg(test)]
+mod tests;
 mod window;
 
 pub use domino_table::{DominoTable, TableEnd, dominoes};
