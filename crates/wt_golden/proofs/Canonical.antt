@@ -1,11 +1,11 @@
 -- Fractions of one number have one form in lowest terms.
-use Rattle.std.specs.Prelude.{◌≡◌, ◌*◌, ◌<◌, ℤ, pos, negsuc, ◌*ℤ◌, ◌<ℤ◌, unsigned_abs, List, [], ◌∷◌, refl}
-use Rattle.std.proofs.Common.{sym, ◌∙◌, ap, subst, arith}
+use Rattle.std.specs.Prelude.{◌≡◌, ℤ, pos, negsuc, ◌*ℤ◌, ◌<ℤ◌, unsigned_abs, [], ◌∷◌, refl}
+use Rattle.std.proofs.Common.{sym, ◌∙◌, ap, arith}
 use Rattle.std.proofs.lemmas.Int.{ints}
 use Rattle.std.proofs.Math.IntN.{*ℤ_comm}
 use Rattle.wt_ring.proofs.Integers.{integers}
-use Rattle.wt_ring.proofs.Ring.{Ring, Term, x_, n_, ◌⊕◌, ◌⊗◌, eval, solve}
-use Rattle.wt_golden.specs.Whole.{Whole, whole, times}
+use Rattle.wt_ring.proofs.Ring.{x_, ◌⊗◌, solve}
+use Rattle.wt_golden.specs.Whole.{Whole}
 use Rattle.wt_golden.specs.Fractions.{Fraction, top, common, common_of, lowest, IsSameNumber}
 use Rattle.wt_golden.proofs.WholeRing.{same_whole}
 use Rattle.wt_golden.proofs.Sizes.{times_whole}

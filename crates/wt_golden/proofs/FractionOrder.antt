@@ -1,10 +1,10 @@
 -- The order of fractions is an order of a field, and neither it nor sums and products see how a number is spelled.
-use Rattle.std.specs.Prelude.{◌≡◌, ◌⊎◌, ◌↔◌, ℤ, pos, ◌*ℤ◌, ◌<ℤ◌, List, [], ◌∷◌, refl}
+use Rattle.std.specs.Prelude.{◌≡◌, ◌↔◌, pos, ◌*ℤ◌, ◌<ℤ◌, [], ◌∷◌, refl}
 use Rattle.std.proofs.Common.{sym, ◌∙◌, ap, subst, inl, inr}
 use Rattle.std.specs.Ordering.{MatchOrdering}
 use Rattle.std.specs.declared.cmp.Ordering.{Ordering}
 use Rattle.std.specs.declared.cmp.Ordering.TheVariants.{Less, Equal, Greater}
-use Rattle.wt_ring.proofs.Ring.{Ring, Term, x_, n_, ◌⊕◌, ◌⊗◌, ⊖_, eval, solve}
+use Rattle.wt_ring.proofs.Ring.{x_, n_, ◌⊕◌, ◌⊗◌, ⊖_, solve}
 use Rattle.wt_golden.specs.Whole.{Whole, whole, plus, minus, times, opposite, sign, IsPositive}
 use Rattle.wt_golden.specs.Fractions.{Fraction, top, sum, product, order, nought, IsSameNumber, IsGreater}
 use Rattle.wt_golden.proofs.WholeRing.{golden, times_zero, whole_times}

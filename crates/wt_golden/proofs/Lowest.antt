@@ -1,5 +1,5 @@
 -- Numbers in lowest terms.
-use Rattle.std.specs.Prelude.{◌≡◌, ℕ, zero, suc, ◌*◌, ◌/◌, ◌<◌, ◌≤◌, ◌^◌, ℤ, pos, negsuc, ◌<ℤ◌, ◌*ℤ◌, int_div, unsigned_abs, FitsSigned, List, [], ◌∷◌, refl}
+use Rattle.std.specs.Prelude.{◌≡◌, ℕ, zero, suc, ◌*◌, ◌/◌, ◌<◌, ◌≤◌, ℤ, pos, negsuc, ◌<ℤ◌, ◌*ℤ◌, int_div, unsigned_abs, FitsSigned, [], ◌∷◌, refl}
 use Rattle.std.proofs.Common.{sym, ◌∙◌, ap, subst, arith}
 use Rattle.std.specs.Int.{◌∣◌}
 use Rattle.std.proofs.lemmas.Int.{ints, to_z-of_z}
@@ -7,9 +7,9 @@ use mir.Syntax.{w128}
 use mir.Val.{to_z, of_z}
 use Rattle.std.proofs.lemmas.Nat.Gcd.{le_of_dvd}
 use Rattle.std.proofs.Math.Nat.{div-mul_cancel, pos_of_dvd_of_pos, div-le_self, eq-one_of_dvd-one}
-use Rattle.wt_golden.specs.Fractions.{Fraction, common, common_of, lowest, limit, IsWithin, IsGolden}
-use Rattle.wt_golden.proofs.Divisors.{abs_quotient, common_divides, common_quotients, common_greatest, quotient_one, quotient_times, quotients}
-use Rattle.wt_ring.proofs.Ring.{Ring, Term, x_, n_, ◌⊕◌, ◌⊗◌, eval, solve}
+use Rattle.wt_golden.specs.Fractions.{Fraction, common, lowest, limit, IsWithin, IsGolden}
+use Rattle.wt_golden.proofs.Divisors.{abs_quotient, common_divides, common_quotients, common_greatest, quotient_one, quotient_times}
+use Rattle.wt_ring.proofs.Ring.{x_, ◌⊗◌, solve}
 use Rattle.wt_ring.proofs.Integers.{integers}
 
 pub abs_above : (d : ℤ) → pos 0 <ℤ d → 0 < unsigned_abs d

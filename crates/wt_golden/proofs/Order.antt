@@ -1,15 +1,14 @@
 -- The order of the whole golden numbers: by the norm, and by the definition.
-use Rattle.std.specs.Prelude.{◌≡◌, ℕ, zero, suc, ◌⊎◌, Bool, true, false, ◌&&◌, ◌||◌, ℤ, pos, negsuc, ◌+ℤ◌, ◌*ℤ◌, neg_ℤ, ◌<ℤ◌, ◌≤ℤ◌, int_lt, int_le, List, [], ◌∷◌, refl}
+use Rattle.std.specs.Prelude.{◌≡◌, zero, suc, ◌⊎◌, Bool, true, false, ◌&&◌, ◌||◌, ℤ, pos, negsuc, ◌+ℤ◌, ◌*ℤ◌, neg_ℤ, ◌<ℤ◌, ◌≤ℤ◌, int_lt, int_le, [], ◌∷◌, refl}
 use Rattle.std.proofs.Common.{sym, ◌∙◌, ap, subst, inl, inr, arith}
 use Rattle.std.proofs.lemmas.Int.{ints, by_lt_z}
 use Rattle.std.proofs.Math.IntN.{*ℤ-zero}
-use Rattle.std.proofs.lemmas.Bool.{or_cases, and_parts, and_from, cases_Bool, both_ways}
-use borrow.Author.Differences.{up, down, true_is_lt, true_is_le}
+use Rattle.std.proofs.lemmas.Bool.{or_left, or_right, or_cases, and_parts, and_from, cases_Bool, both_ways}
+use borrow.Author.Differences.{true_is_lt, true_is_le}
 use Rattle.wt_golden.specs.Whole.{Whole, whole, plus, times, opposite, above_zero, is_positive, sign, IsPositive}
 use Rattle.std.specs.Ordering.{int_eq, MatchOrdering}
-use Rattle.std.specs.declared.cmp.Ordering.{Ordering}
 use Rattle.std.specs.declared.cmp.Ordering.TheVariants.{Less, Equal, Greater}
-use Rattle.wt_ring.proofs.Ring.{Ring, Term, x_, n_, ◌⊕◌, ◌⊗◌, ⊖_, eval, solve}
+use Rattle.wt_ring.proofs.Ring.{x_, n_, ◌⊕◌, ◌⊗◌, ⊖_, solve}
 use Rattle.wt_ring.proofs.Integers.{integers}
 use Rattle.wt_golden.proofs.Products.{mul_above, mul_not_below, square_not_below, outweighs, no_root}
 use Rattle.wt_golden.proofs.WholeRing.{golden, same_whole, times_comm, plus_comm, times_zero, times_a, times_b, norm_of, twice, norm_times, norm_opposite, twice_opposite, norm_squares, twice_times, b_times, norm_plus, twice_plus, uv_square, ud_square}
@@ -198,13 +197,6 @@ above_plus x y (inr f) (inl g) = subst Above (plus_comm y x) (mixed_plus y x g f
 above_plus x y (inr f) (inr g) = inr (inner_plus x y f g)
 
 -- ---- the definition says the same
-or_from_left : (x y : Bool) → x ≡ true → (x || y) ≡ true
-or_from_left x y e = rw e refl
-
-or_from_right : (x y : Bool) → y ≡ true → (x || y) ≡ true
-or_from_right true y e = refl
-or_from_right false y e = e
-
 below_of : (x y : ℤ) → int_lt x y ≡ true → x <ℤ y
 below_of x y e = omega (arith, ints)
 
@@ -265,16 +257,16 @@ to_definition : (u b n : ℤ) → pos 4 *ℤ n +ℤ pos 5 *ℤ (b *ℤ b) ≡ u 
     → ((pos 0 <ℤ n) × (pos 0 <ℤ u)) ⊎ ((n <ℤ pos 0) × (pos 0 <ℤ b)) → above_zero u b ≡ true
 to_definition u b n e (inl o) =
     by_lt_z b (pos 0)
-    (λ l. or_from_left _ _ (or_from_right _ _ (and_from _ _ (and_from _ _ (below_to (pos 0) u o.1) (below_to b (pos 0) l))
+    (λ l. or_left _ _ (or_right _ _ (and_from _ _ (and_from _ _ (below_to (pos 0) u o.1) (below_to b (pos 0) l))
     (below_to (pos 5 *ℤ (b *ℤ b)) (u *ℤ u) (omega (arith, ints, e, o.0))))))
-    (λ l. or_from_left _ _ (or_from_left _ _ (and_from _ _ (and_from _ _ (at_most_to (pos 0) u (omega (arith, ints, o.1))) (at_most_to (pos 0) b l))
-    (or_from_left _ _ (below_to (pos 0) u o.1)))))
+    (λ l. or_left _ _ (or_left _ _ (and_from _ _ (and_from _ _ (at_most_to (pos 0) u (omega (arith, ints, o.1))) (at_most_to (pos 0) b l))
+    (or_left _ _ (below_to (pos 0) u o.1)))))
 to_definition u b n e (inr i) =
     by_lt_z u (pos 0)
-    (λ l. or_from_right _ _ (and_from _ _ (and_from _ _ (below_to u (pos 0) l) (below_to (pos 0) b i.1))
+    (λ l. or_right _ _ (and_from _ _ (and_from _ _ (below_to u (pos 0) l) (below_to (pos 0) b i.1))
     (below_to (u *ℤ u) (pos 5 *ℤ (b *ℤ b)) (omega (arith, ints, e, i.0)))))
-    (λ l. or_from_left _ _ (or_from_left _ _ (and_from _ _ (and_from _ _ (at_most_to (pos 0) u l) (at_most_to (pos 0) b (omega (arith, ints, i.1))))
-    (or_from_right _ _ (below_to (pos 0) b i.1)))))
+    (λ l. or_left _ _ (or_left _ _ (and_from _ _ (and_from _ _ (at_most_to (pos 0) u l) (at_most_to (pos 0) b (omega (arith, ints, i.1))))
+    (or_right _ _ (below_to (pos 0) b i.1)))))
 
 pub to_above : (x : Whole) → IsPositive x → Above x
 unfolding is_positive

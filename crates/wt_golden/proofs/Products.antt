@@ -1,10 +1,10 @@
 -- The signs of products of whole numbers, and that 5 is no square.
-use Rattle.std.specs.Prelude.{◌≡◌, ℕ, zero, suc, ◌+◌, ◌*◌, ◌-◌, ◌<◌, ◌≤◌, ◌⊎◌, ℤ, pos, negsuc, ◌+ℤ◌, ◌*ℤ◌, neg_ℤ, unsigned_abs, ◌<ℤ◌, ◌≤ℤ◌, List, [], ◌∷◌, refl}
-use Rattle.std.proofs.Common.{le_refl, sym, ◌∙◌, ap, subst, inl, inr, arith}
+use Rattle.std.specs.Prelude.{◌≡◌, ℕ, zero, suc, ◌+◌, ◌*◌, ◌-◌, ◌<◌, ◌≤◌, ℤ, pos, negsuc, ◌+ℤ◌, ◌*ℤ◌, neg_ℤ, unsigned_abs, ◌<ℤ◌, ◌≤ℤ◌, [], ◌∷◌, refl}
+use Rattle.std.proofs.Common.{le_refl, sym, ap, subst, arith}
 use Rattle.std.proofs.lemmas.Int.{ints, by_lt_z}
 use Rattle.std.proofs.lemmas.Nat.{mul-le}
 use Rattle.wt_ring.proofs.Integers.{integers}
-use Rattle.wt_ring.proofs.Ring.{Ring, Term, x_, n_, ◌⊕◌, ◌⊗◌, ⊖_, eval, solve}
+use Rattle.wt_ring.proofs.Ring.{x_, ◌⊕◌, ◌⊗◌, ⊖_, solve}
 
 -- ---- the order
 pub mul_above : (x y : ℤ) → pos 0 <ℤ x → pos 0 <ℤ y → pos 0 <ℤ (x *ℤ y)

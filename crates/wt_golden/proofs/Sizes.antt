@@ -1,10 +1,10 @@
 -- How large sums and products of whole golden numbers become.
-use Rattle.std.specs.Prelude.{◌≡◌, ℕ, ◌+◌, ◌*◌, ◌≤◌, ◌^◌, ℤ, ◌+ℤ◌, ◌*ℤ◌, neg_ℤ, unsigned_abs, pos, List, [], ◌∷◌, refl}
+use Rattle.std.specs.Prelude.{◌≡◌, ℕ, ◌+◌, ◌*◌, ◌≤◌, ℤ, ◌+ℤ◌, ◌*ℤ◌, neg_ℤ, unsigned_abs, pos, [], ◌∷◌, refl}
 use Rattle.std.proofs.Common.{arith, subst, sym, ◌∙◌, ap}
 use Rattle.std.proofs.lemmas.Int.{ints, unsigned_abs-mul}
 use Rattle.std.proofs.lemmas.Nat.{mul-le}
 use Rattle.wt_golden.specs.Whole.{Whole, whole, plus, times, opposite, minus}
-use Rattle.wt_ring.proofs.Ring.{Ring, Term, x_, n_, ◌⊕◌, ◌⊗◌, eval, solve}
+use Rattle.wt_ring.proofs.Ring.{x_, n_, ◌⊕◌, ◌⊗◌, solve}
 use Rattle.wt_ring.proofs.Integers.{integers}
 use Rattle.wt_golden.proofs.WholeRing.{same_whole}
 use Rattle.wt_golden.specs.Sizes.{IsBelow}
@@ -12,8 +12,8 @@ use Rattle.wt_golden.specs.Sizes.{IsBelow}
 abs_sum : (x y : ℤ) → unsigned_abs (x +ℤ y) ≤ unsigned_abs x + unsigned_abs y
 abs_sum x y = omega (arith, ints)
 
-abs_neg : (x : ℤ) → unsigned_abs (neg_ℤ x) ≤ unsigned_abs x
-abs_neg x = omega (arith, ints)
+neg_size : (x : ℤ) → unsigned_abs (neg_ℤ x) ≤ unsigned_abs x
+neg_size x = omega (arith, ints)
 
 abs_product : (x y : ℤ) (m n : ℕ) → unsigned_abs x ≤ m → unsigned_abs y ≤ n → unsigned_abs (x *ℤ y) ≤ m * n
 abs_product x y m n h k = omega (arith, unsigned_abs-mul x y, mul-le (unsigned_abs x) (unsigned_abs y) m n h k)
@@ -27,7 +27,7 @@ plus_below x y m n f g = record { a = omega (arith, abs_sum x.a y.a, f.a, g.a); 
 
 pub opposite_below : (x : Whole) (m : ℕ) → IsBelow x m → IsBelow (opposite x) m
 unfolding opposite
-opposite_below x m f = record { a = omega (arith, abs_neg x.a, f.a); b = omega (arith, abs_neg x.b, f.b) }
+opposite_below x m f = record { a = omega (arith, neg_size x.a, f.a); b = omega (arith, neg_size x.b, f.b) }
 
 pub minus_below : (x y : Whole) (m n : ℕ) → IsBelow x m → IsBelow y n → IsBelow (minus x y) (m + n)
 minus_below x y m n f g = plus_below x (opposite y) m n f (opposite_below y n g)

@@ -1,8 +1,7 @@
 -- The whole golden numbers as a ring, and the norm.
-use Rattle.std.specs.Prelude.{◌≡◌, ℕ, ℤ, pos, negsuc, ◌+ℤ◌, ◌*ℤ◌, neg_ℤ, List, [], ◌∷◌, refl}
-use Rattle.std.proofs.Common.{sym, ◌∙◌, ap, subst, arith}
+use Rattle.std.specs.Prelude.{◌≡◌, ℤ, pos, negsuc, ◌+ℤ◌, ◌*ℤ◌, neg_ℤ, List, [], ◌∷◌, refl}
 use Rattle.wt_golden.specs.Whole.{Whole, whole, phi, plus, times, opposite}
-use Rattle.wt_ring.proofs.Ring.{Ring, Term, x_, n_, ◌⊕◌, ◌⊗◌, ⊖_, eval, solve}
+use Rattle.wt_ring.proofs.Ring.{Ring, Term, x_, n_, ◌⊕◌, ◌⊗◌, ⊖_, solve}
 use Rattle.wt_ring.proofs.Integers.{integers}
 
 pub same_whole : (x y : Whole) → x.a ≡ y.a → x.b ≡ y.b → x ≡ y

@@ -1,5 +1,5 @@
 -- The numbers of Q(√5): (a + b φ) / d with whole a, b and d, where d is above 0; lowest terms, arithmetic and order.
-use Rattle.std.specs.Prelude.{◌≡◌, ℕ, zero, suc, ◌%◌, ◌<◌, ◌^◌, ℤ, pos, ◌+ℤ◌, ◌*ℤ◌, ◌<ℤ◌, neg_ℤ, int_div, int_lt, if◌then◌else◌, unsigned_abs, List, [], ◌∷◌}
+use Rattle.std.specs.Prelude.{◌≡◌, ℕ, zero, suc, ◌%◌, ◌<◌, ◌^◌, ℤ, pos, ◌*ℤ◌, ◌<ℤ◌, neg_ℤ, int_div, int_lt, if◌then◌else◌, unsigned_abs, List, [], ◌∷◌}
 use Rattle.std.specs.declared.cmp.Ordering.{Ordering}
 use Rattle.wt_golden.specs.Whole.{Whole, plus, minus, times, opposite, whole, sign, IsPositive}
 

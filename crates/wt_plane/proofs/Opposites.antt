@@ -6,14 +6,10 @@ use Rattle.std.proofs.Math.Nat.{zero-div}
 use Rattle.wt_golden.specs.Whole.{Whole, opposite}
 use Rattle.wt_golden.specs.Fractions.{common_of}
 use Rattle.wt_golden.proofs.WholeRing.{same_whole}
+use Rattle.wt_golden.proofs.Divisors.{abs_neg}
 use Rattle.wt_golden.proofs.Sizes.{opposite_below}
 use Rattle.wt_plane.specs.HalfPlanes.{Half, divided, reduced_half, numbers_of, opposite_half, IsHalfPlane, half_limit}
 use Rattle.wt_plane.proofs.Regions.{opposite_direction}
-
-abs_neg : (x : ℤ) → unsigned_abs (neg_ℤ x) ≡ unsigned_abs x
-abs_neg (pos zero) = refl
-abs_neg (pos (suc n)) = refl
-abs_neg (negsuc n) = refl
 
 div_neg : (x : ℤ) (g : ℕ) → int_div (neg_ℤ x) (pos g) ≡ neg_ℤ (int_div x (pos g))
 div_neg (pos zero) g = rw (zero-div g) refl

@@ -1,4 +1,4 @@
-use Rattle.std.proofs.Common.{arith, ◌≤◌, ◌<◌, subst, sym}
+use Rattle.std.proofs.Common.{arith, ◌<◌, subst, sym}
 use Rattle.wt_golden.specs.Parts.{fraction}
 use Rattle.wt_golden.proofs.Lowest.{common_above, common_at_most, lowest_from}
 use Rattle.std.proofs.lemmas.Int.{to_z-of_z}
