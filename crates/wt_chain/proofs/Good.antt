@@ -61,7 +61,7 @@ linked_at set [] k d h lt = absurd (omega arith)
 linked_at set (link ∷ links) zero d h lt = h.0
 linked_at set (link ∷ links) (suc k) d h lt = linked_at (coarse_of link) links k d h.2 (omega arith)
 
-run_at : (links : List RawLink) (k : ℕ) (d : RawLink) → IsRun links → k < length links → link_fault (get_or links k d) ≡ None
+pub run_at : (links : List RawLink) (k : ℕ) (d : RawLink) → IsRun links → k < length links → link_fault (get_or links k d) ≡ None
 run_at [] k d h lt = absurd (omega arith)
 run_at (link ∷ links) k d h lt = linked_at (fine_of link) (link ∷ links) k d h lt
 

@@ -1,11 +1,12 @@
 // Chains that are being put together.
-ghost use Rattle.std.specs.Prelude.{◌≡◌, ◌∷◌, ◌++◌, ◌≢◌, ℕ, [], drop, None, Some, MatchResult, IfOk, IfErr, unwrap_or};
+ghost use Rattle.std.specs.Prelude.{◌≡◌, ◌<◌, ◌≤◌, ◌∷◌, ◌++◌, ◌≢◌, ℕ, [], drop, length, slice_get, None, Some, MatchResult, IfOk, IfErr, unwrap_or};
+ghost use Rattle.wt_step.specs.Views.{link_of};
 ghost use Rattle.wt_chain.specs.declared.raw.End.TheVariants.{Open, Loop};
 ghost use Rattle.wt_chain.specs.declared.push.PushFault.TheVariants as push_fault_variants;
 ghost use Rattle.wt_chain.specs.Versions.{one_more};
 ghost use Rattle.wt_chain.specs.Versions as versions;
 ghost use Rattle.wt_chain.specs.Faults as fault_words;
-ghost use Rattle.wt_chain.specs.Sets.{IsRenamed, first_count};
+ghost use Rattle.wt_chain.specs.Sets.{IsRenamed, first_count, set_at};
 ghost use Rattle.wt_chain.specs.Chains as chains;
 
 use crate::faults::{loop_expansion, loop_fault, steps_from};
@@ -15,7 +16,8 @@ use crate::{Accepted, End, PushFault, RawChain, Refusal, Version};
 use std::alloc::Global;
 use std::marker::Model;
 use wt_seq::Seq;
-use wt_step::{Link, RawLink};
+use wt_step::{Link, LinkRef, RawLink};
+use wt_tile::SetRef;
 
 /// A chain of 1 to 32 good steps, each of which takes apart the set before it. Contracts see the list of its
 /// steps.
@@ -168,6 +170,35 @@ impl Chain {
         Chain {
             steps: raw.steps.into_vec(),
             version,
+        }
+    }
+
+    /// How many steps the chain has: 1 to 32.
+    pub fn steps(&self) -> usize
+        ensures value { result ≡ length self.now }
+        ensures some { 0 < result }
+        ensures few { result ≤ 32 }
+    {
+        self.steps.len()
+    }
+
+    /// Step k, below the number of steps.
+    fn step(&self, k: usize) -> LinkRef<'_>
+        requires { k < length self.now }
+        ensures { slice_get self.now k ≡ Some (link_of result) }
+    {
+        LinkRef::new(&self.steps[k])
+    }
+
+    /// The set of a level, at most the number of steps: that which step `level` takes apart, or behind the last step its coarse set.
+    pub fn set(&self, level: usize) -> SetRef<'_>
+        requires { level ≤ length self.now }
+        ensures { set_at self.now level ≡ Some result.list.now }
+    {
+        if level < self.steps() {
+            self.step(level).fine()
+        } else {
+            self.step(level - 1).coarse()
         }
     }
 
