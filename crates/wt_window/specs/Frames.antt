@@ -1,9 +1,11 @@
 -- Windows as a search of them holds them: a mask of tiles for each cell.
-use Rattle.std.specs.Prelude.{◌≡◌, ℕ, suc, ◌+◌, ◌-◌, ◌*◌, ◌%◌, ◌<◌, ◌≤◌, true, ◌&&◌, nat_lt, nat_le, if◌then◌else◌, Option, None, Some, List, length, slice_index}
+use Rattle.std.specs.Prelude.{◌≡◌, ℕ, suc, ◌+◌, ◌-◌, ◌*◌, ◌%◌, ◌<◌, ◌≤◌, true, ◌&&◌, nat_lt, nat_le, if◌then◌else◌, Option, None, Some, List, length, take, slice_index}
 use Rattle.wt_grid.specs.declared.axis.Axis.TheVariants.{One, Two}
+use Rattle.wt_grid.specs.declared.axis.Axis.{Axis}
 use Rattle.wt_tile.specs.declared.tile.Tile.{Tile}
 use Rattle.wt_tile.specs.Matching.{matches}
 use Rattle.wt_lane.specs.Masks.{mask_bit}
+use Rattle.wt_pattern.specs.Windows.{window_size}
 use Rattle.wt_mask.specs.Masks.{bit, mask_at, may_stand}
 use Rattle.wt_mask.specs.declared.sides.Way.{Way}
 use Rattle.wt_mask.specs.declared.sides.Way.TheVariants.{Right, Left, Up, Down}
@@ -53,6 +55,22 @@ IsWhole ts f g = IsFilling ts (frame_window f) (cells (frame_window f)) g
 -- each cell's tile is in the cell's mask
 abbrev pub Stand : List (List ℕ) → List ℕ → Type 0
 Stand masks g = (k : ℕ) → k < length g → mask_bit (mask_at masks k) (slice_index g k) ≡ 1
+
+-- the new masks have each filling of the rectangle that the old ones have
+abbrev pub HasAllOf : List Tile → ℕ → ℕ → List (List ℕ) → List (List ℕ) → Type 0
+HasAllOf ts width height old new = (g : List ℕ) → IsTiled ts width height g → Stand old g → Stand new g
+
+-- the masks have no filling of the rectangle
+abbrev pub HasNoFilling : List Tile → ℕ → ℕ → List (List ℕ) → Type 0
+HasNoFilling ts width height masks = (g : List ℕ) → IsTiled ts width height g → Stand masks g → ⊥
+
+-- the masks have each filling of the windows of a radius, whatever stands in the middle
+abbrev pub HasAllFillings : List Tile → Axis → ℕ → List (List ℕ) → Type 0
+HasAllFillings ts axis r masks = (g : List ℕ) → IsTiled ts (window_size axis r).0 (window_size axis r).1 g → Stand masks g
+
+-- the masks have each filling of the frame's window that has the same first cells
+abbrev pub HasAllFrom : List Tile → Frame → ℕ → List ℕ → List (List ℕ) → Type 0
+HasAllFrom ts f at filled masks = (g : List ℕ) → IsWhole ts f g → take at g ≡ take at filled → Stand masks g
 
 -- the tile may follow the filling
 pub record IsNext (ts : List Tile) (w : Window) (f : List ℕ) (t : ℕ) : Type 0 where

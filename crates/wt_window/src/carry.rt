@@ -3,7 +3,7 @@ ghost use Rattle.std.specs.Prelude.{◌≡◌, ◌≢◌, ℕ, ◌+◌, ◌*◌,
 ghost use Rattle.std.specs.Int.{bit_at};
 ghost use Rattle.wt_lane.specs.Masks.{mask_bit};
 ghost use Rattle.wt_mask.specs.Masks.{mask_at};
-ghost use Rattle.wt_window.specs.Frames.{Stand, IsBox, IsTiled};
+ghost use Rattle.wt_window.specs.Frames.{IsBox, HasAllOf, HasNoFilling};
 
 use crate::frame::{Frame, beside};
 use crate::tables::Tables;
@@ -83,8 +83,8 @@ fn carry(
 ) -> Change
     requires frame { IsBox frame.now.width frame.now.height }
     requires low { cell < frame.now.width * frame.now.height }
-    ensures kept { (g : List ℕ) → IsTiled tables.now.tiles.now frame.now.width frame.now.height g → Stand masks.old g → Stand masks.new g }
-    ensures nothing { result ≡ Change.Nothing → (g : List ℕ) → IsTiled tables.now.tiles.now frame.now.width frame.now.height g → Stand masks.old g → ⊥ }
+    ensures kept { HasAllOf tables.now.tiles.now frame.now.width frame.now.height masks.old masks.new }
+    ensures nothing { result ≡ Change.Nothing → HasNoFilling tables.now.tiles.now frame.now.width frame.now.height masks.old }
 {
     let Some(to) = beside(frame, cell, way) else {
         return Change::Same;
@@ -104,8 +104,8 @@ fn spread(
 ) -> Option<u128>
     requires frame { IsBox frame.now.width frame.now.height }
     requires low { cell < frame.now.width * frame.now.height }
-    ensures kept { (g : List ℕ) → IsTiled tables.now.tiles.now frame.now.width frame.now.height g → Stand masks.old g → Stand masks.new g }
-    ensures nothing { result ≡ None → (g : List ℕ) → IsTiled tables.now.tiles.now frame.now.width frame.now.height g → Stand masks.old g → ⊥ }
+    ensures kept { HasAllOf tables.now.tiles.now frame.now.width frame.now.height masks.old masks.new }
+    ensures nothing { result ≡ None → HasNoFilling tables.now.tiles.now frame.now.width frame.now.height masks.old }
 {
     let mut changed = 0u128;
     for way in WAYS {
@@ -131,8 +131,8 @@ pub fn propagate(
     changed: u128,
 ) -> bool
     requires frame { IsBox frame.now.width frame.now.height }
-    ensures kept { (g : List ℕ) → IsTiled tables.now.tiles.now frame.now.width frame.now.height g → Stand masks.old g → Stand masks.new g }
-    ensures nothing { result ≡ false → (g : List ℕ) → IsTiled tables.now.tiles.now frame.now.width frame.now.height g → Stand masks.old g → ⊥ }
+    ensures kept { HasAllOf tables.now.tiles.now frame.now.width frame.now.height masks.old masks.new }
+    ensures nothing { result ≡ false → HasNoFilling tables.now.tiles.now frame.now.width frame.now.height masks.old }
 {
     let count = frame.width * frame.height;
     let mut changed = changed;

@@ -1,8 +1,7 @@
 //! Tables of the pairs that have a window.
 ghost use Rattle.std.specs.Prelude.{◌≡◌, ℕ, ◌<◌, ◌≤◌, List, length, true, false, Err, IfOk, MatchOption};
-ghost use Rattle.wt_pattern.specs.Windows.{window_size};
 ghost use Rattle.wt_window.specs.Trials.{window, cells};
-ghost use Rattle.wt_window.specs.Frames.{Stand, IsTiled};
+ghost use Rattle.wt_window.specs.Frames.{HasAllFillings};
 ghost use Rattle.wt_window.specs.Surrounded.{IsRow, IsSpentRow, IsUnmatched, allowed};
 ghost use Rattle.wt_window.specs.Outcomes.{MayAnswerTable};
 
@@ -84,7 +83,7 @@ fn row(
     budget: u64,
 ) -> Result<[u64; 4], u16>
     requires radius { radius ≤ 4 }
-    requires stand { (g : List ℕ) → IsTiled tables.now.tiles.now (window_size axis radius).0 (window_size axis radius).1 g → Stand unplaced.now g }
+    requires stand { HasAllFillings tables.now.tiles.now axis radius unplaced.now }
     requires first { a < length tables.now.tiles.now }
     requires long { length filled.old ≡ cells (window axis 0 0 radius) }
     ensures row { IfOk result (λ mask. IsRow tables.now.tiles.now axis a radius (length tables.now.tiles.now) mask) }

@@ -5,9 +5,9 @@ ghost use Rattle.wt_lane.specs.Masks.{mask_bit};
 ghost use Rattle.wt_window.specs.Trials.{IsFilling, cells, may_follow, implies, trials_from, trials};
 ghost use Rattle.wt_window.specs.Trials as spec;
 ghost use Rattle.wt_mask.specs.Masks.{bit, mask_at};
-ghost use Rattle.wt_window.specs.Frames.{frame_window, Stand, IsFrame, IsNext, IsTiled, IsWhole};
+ghost use Rattle.wt_window.specs.Frames.{frame_window, Stand, IsFrame, IsNext, IsWhole, HasAllFillings, HasAllFrom};
 ghost use Rattle.wt_window.specs.Surrounded.{IsLeastWindow};
-ghost use Rattle.wt_pattern.specs.Windows.{window_size, IsEmptyWindow};
+ghost use Rattle.wt_pattern.specs.Windows.{IsEmptyWindow};
 
 use crate::carry::propagate;
 use crate::frame::{Frame, frame_of};
@@ -102,12 +102,10 @@ fn fill(
     requires within { at < length filled.old }
     requires begun { IsFilling tables.now.tiles.now (frame_window frame.now) at (take at filled.old) }
     requires next { IsNext tables.now.tiles.now (frame_window frame.now) (take at filled.old) tile }
-    requires whole { (g : List ℕ) → IsWhole tables.now.tiles.now frame.now g
-        → take at g ≡ take at filled.old → Stand masks.old g }
+    requires whole { HasAllFrom tables.now.tiles.now frame.now at filled.old masks.old }
     ensures filled { filled.new ≡ slice_set filled.old at tile }
     ensures begun { IsFilling tables.now.tiles.now (frame_window frame.now) (at + 1) (take (at + 1) filled.new) }
-    ensures whole { (g : List ℕ) → IsWhole tables.now.tiles.now frame.now g
-        → take (at + 1) g ≡ take (at + 1) filled.new → Stand masks.new g }
+    ensures whole { HasAllFrom tables.now.tiles.now frame.now (at + 1) filled.new masks.new }
 {
     filled[at] = tile as u16;
     place(masks, at, tile);
@@ -128,8 +126,7 @@ fn search(
     requires long { length filled.old ≡ cells (frame_window frame.now) }
     requires within { at ≤ length filled.old }
     requires begun { IsFilling tables.now.tiles.now (frame_window frame.now) at (take at filled.old) }
-    requires whole { (g : List ℕ) → IsWhole tables.now.tiles.now frame.now g
-        → take at g ≡ take at filled.old → Stand masks.old g }
+    requires whole { HasAllFrom tables.now.tiles.now frame.now at filled.old masks.old }
     ensures same { take at filled.new ≡ take at filled.old }
     ensures window { result ≡ Found.Window → IsWhole tables.now.tiles.now frame.now filled.new }
     ensures least { result ≡ Found.Window → (g : List ℕ) → IsWhole tables.now.tiles.now frame.now g
@@ -176,7 +173,7 @@ fn search(
 /// The masks of a window before its two tiles are placed: those of all tiles, carried on.
 pub fn open_masks(tables: &Tables<'_>, axis: Axis, radius: u8) -> [[u64; 4]; 90]
     requires { radius ≤ 4 }
-    ensures { (g : List ℕ) → IsTiled tables.now.tiles.now (window_size axis radius).0 (window_size axis radius).1 g → Stand result g }
+    ensures { HasAllFillings tables.now.tiles.now axis radius result }
 {
     let frame = frame_of(axis, 0, 0, radius);
     let mut masks = [tables.all; 90];
@@ -221,7 +218,7 @@ pub fn find(
     budget: u64,
 ) -> Found
     requires radius { radius ≤ 4 }
-    requires stand { (g : List ℕ) → IsTiled tables.now.tiles.now (window_size axis radius).0 (window_size axis radius).1 g → Stand unplaced.now g }
+    requires stand { HasAllFillings tables.now.tiles.now axis radius unplaced.now }
     requires first { a < length tables.now.tiles.now }
     requires second { b < length tables.now.tiles.now }
     requires long { length filled.old ≡ cells (spec.window axis a b radius) }
