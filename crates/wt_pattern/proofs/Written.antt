@@ -1,7 +1,7 @@
 -- Rows that are written one after the other.
-use Rattle.std.proofs.Common.{rules, arith, ◌≡◌, ℕ, zero, suc, ◌+◌, ◌≤◌, ◌<◌, List, [], ◌∷◌, ◌++◌, length, get_or, map, drop, refl, sym, ap, ◌∙◌, append_assoc, add-one, drop-cons}
+use Rattle.std.proofs.Common.{rules, arith, ◌≡◌, ℕ, zero, suc, ◌+◌, ◌≤◌, ◌<◌, List, [], ◌∷◌, ◌++◌, length, get_or, map, take, drop, refl, sym, ap, ◌∙◌, append_assoc, add-one, drop-cons}
 use Rattle.std.specs.List.{flat_map}
-use Rattle.std.proofs.lemmas.List.{append-nil}
+use Rattle.std.proofs.lemmas.List.{append-nil, length-append, take-append-le}
 use Rattle.std.specs.Fmt.{decimal}
 use Rattle.wt_tile.specs.declared.tile.Tile.{Tile}
 use Rattle.wt_text.specs.Lines.{Line, bytes_of}
@@ -53,3 +53,10 @@ pub no_name : (xs : List (List ℕ)) (n : ℕ) → length xs ≤ n → [] ≡ na
 no_name [] n le = refl
 no_name (y ∷ ys) zero le = absurd (omega arith)
 no_name (y ∷ ys) (suc n) le = no_name ys n (omega arith)
+
+-- a text begins with what it began with before more was appended
+pub still_before : (old out more last new : List ℕ) → length old ≤ length out → take (length old) out ≡ old → new ≡ out ++ more ++ last → (length old ≤ length new) × (take (length old) new ≡ old)
+still_before old out more last new longer before e =
+    let longest : new ≡ out ++ (more ++ last) = e ∙ append_assoc out more last in
+    let grown : length new ≡ length out + length (more ++ last) = ap length longest ∙ length-append out (more ++ last) in
+    (omega (arith, longer, grown), ap (take (length old)) longest ∙ take-append-le (length old) out (more ++ last) longer ∙ before)

@@ -1,5 +1,5 @@
 // Tile sets and patterns, written as text.
-ghost use Rattle.std.specs.Prelude.{◌≡◌, ◌++◌, OnOk, IfOk};
+ghost use Rattle.std.specs.Prelude.{◌≡◌, ◌++◌, OnOk, OnErr, IfOk, length, take};
 ghost use Rattle.wt_names.specs.Numbering.{name_at};
 ghost use Rattle.wt_text.specs.Lines.{bytes_of};
 ghost use Rattle.wt_pattern.specs.TileRows.{rows_spelling};
@@ -9,7 +9,7 @@ ghost use Rattle.wt_pattern.specs.Writing.{tile_bytes};
 use crate::Pattern;
 use std::alloc::{AllocError, Global};
 use wt_tile::{Name, SetRef, Tile, TileList};
-use wt_write::{end_line, push_row};
+use wt_write::{bytes_behind, end_line, push_row};
 
 /// The name of a colour; no bytes where it has none.
 pub(crate) fn name_of(names: &[Name], number: u16) -> &[u8]
@@ -23,34 +23,37 @@ pub(crate) fn name_of(names: &[Name], number: u16) -> &[u8]
     }
 }
 
-/// Appends the row of a tile's four names.
-fn push_tile(
+// Appends the row of a tile's four names. On want of memory a part of the row may stand behind what was there.
+fn put_tile(
     out: &mut Vec<u8>,
     names1: &[Name],
     names2: &[Name],
     tile: Tile,
 ) -> Result<(), AllocError>
-    ensures { OnOk result (out.new.items ≡ out.old.items ++ tile_bytes names1.now names2.now tile) }
+    ensures ok { OnOk result (out.new.items ≡ out.old.items ++ tile_bytes names1.now names2.now tile) }
+    ensures err { OnErr result (take (length out.old.items) out.new.items ≡ out.old.items) }
 {
     out.extend_from_slice(name_of(names1, tile.east))?;
-    out.push(b' ')?;
-    out.extend_from_slice(name_of(names2, tile.north))?;
-    out.push(b' ')?;
-    out.extend_from_slice(name_of(names1, tile.west))?;
-    out.push(b' ')?;
-    out.extend_from_slice(name_of(names2, tile.south))?;
+    bytes_behind(out, name_of(names2, tile.north))?;
+    bytes_behind(out, name_of(names1, tile.west))?;
+    bytes_behind(out, name_of(names2, tile.south))?;
     end_line(out)?;
     Ok(())
 }
 
-/// Appends the rows of a list of tiles.
+/// Appends the rows of a list of tiles. On want of memory nothing is appended.
 pub fn push_tiles(out: &mut Vec<u8>, list: &TileList) -> Result<(), AllocError>
-    ensures { OnOk result (out.new.items ≡ out.old.items ++ bytes_of (rows_spelling list.now)) }
+    ensures ok { OnOk result (out.new.items ≡ out.old.items ++ bytes_of (rows_spelling list.now)) }
+    ensures err { OnErr result (out.new.items ≡ out.old.items) }
 {
+    let before = out.len();
     let names1 = list.names1.as_slice();
     let names2 = list.names2.as_slice();
     for tile in list.tiles.as_slice() {
-        push_tile(out, names1, names2, *tile)?;
+        if let Err(fault) = put_tile(out, names1, names2, *tile) {
+            out.truncate(before);
+            return Err(fault);
+        }
     }
     Ok(())
 }
@@ -64,9 +67,23 @@ pub fn write_set(alloc: Global, set: SetRef<'_>) -> Result<Vec<u8>, AllocError>
     Ok(text)
 }
 
-/// Appends the rows of a pattern, the top one first.
+/// Appends the rows of a pattern, the top one first. On want of memory nothing is appended.
 pub fn push_pattern(out: &mut Vec<u8>, p: &Pattern) -> Result<(), AllocError>
-    ensures { OnOk result (out.new.items ≡ out.old.items ++ bytes_of (pattern_lines p.now)) }
+    ensures ok { OnOk result (out.new.items ≡ out.old.items ++ bytes_of (pattern_lines p.now)) }
+    ensures err { OnErr result (out.new.items ≡ out.old.items) }
+{
+    let before = out.len();
+    let done = put_rows(out, p);
+    if done.is_err() {
+        out.truncate(before);
+    }
+    done
+}
+
+// On want of memory some of the rows may stand behind what was there.
+fn put_rows(out: &mut Vec<u8>, p: &Pattern) -> Result<(), AllocError>
+    ensures ok { OnOk result (out.new.items ≡ out.old.items ++ bytes_of (pattern_lines p.now)) }
+    ensures err { OnErr result (take (length out.old.items) out.new.items ≡ out.old.items) }
 {
     let mut y = p.height();
     while y > 0 {

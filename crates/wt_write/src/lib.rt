@@ -6,4 +6,4 @@ mod rows;
 mod words;
 
 pub use rows::{push_numbers, push_row};
-pub use words::{end_line, number_behind, push_number, push_word, word_behind};
+pub use words::{bytes_behind, end_line, number_behind, push_number, push_word, word_behind};

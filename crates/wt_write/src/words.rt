@@ -22,23 +22,38 @@ pub fn push_number(out: &mut Vec<u8>, number: u64) -> Result<(), AllocError>
     out.extend_from_slice(buffer.format(number).as_bytes())
 }
 
-/// Appends a space and a word.
+/// Appends a space and bytes. On want of memory nothing is appended.
+pub fn bytes_behind(out: &mut Vec<u8>, bytes: &[u8]) -> Result<(), AllocError>
+    ensures ok { OnOk result (out.new.items ≡ out.old.items ++ 32 ∷ bytes.now) }
+    ensures err { OnErr result (out.new.items ≡ out.old.items) }
+{
+    let before = out.len();
+    out.push(b' ')?;
+    let done = out.extend_from_slice(bytes);
+    if done.is_err() {
+        out.truncate(before);
+    }
+    done
+}
+
+/// Appends a space and a word. On want of memory nothing is appended.
 pub fn word_behind(out: &mut Vec<u8>, word: &str) -> Result<(), AllocError>
-    ensures { OnOk result (out.new.items ≡ out.old.items ++ 32 ∷ word.now) }
+    ensures ok { OnOk result (out.new.items ≡ out.old.items ++ 32 ∷ word.now) }
+    ensures err { OnErr result (out.new.items ≡ out.old.items) }
 {
-    out.push(b' ')?;
-    push_word(out, word)
+    bytes_behind(out, word.as_bytes())
 }
 
-/// Appends a space and a number's decimal digits.
+/// Appends a space and a number's decimal digits. On want of memory nothing is appended.
 pub fn number_behind(out: &mut Vec<u8>, number: u64) -> Result<(), AllocError>
-    ensures { OnOk result (out.new.items ≡ out.old.items ++ 32 ∷ decimal number) }
+    ensures ok { OnOk result (out.new.items ≡ out.old.items ++ 32 ∷ decimal number) }
+    ensures err { OnErr result (out.new.items ≡ out.old.items) }
 {
-    out.push(b' ')?;
-    push_number(out, number)
+    let mut buffer = Buffer::new();
+    bytes_behind(out, buffer.format(number).as_bytes())
 }
 
-/// Appends a newline.
+/// Appends a newline. On want of memory nothing is appended.
 pub fn end_line(out: &mut Vec<u8>) -> Result<(), AllocError>
     ensures ok { OnOk result (out.new.items ≡ out.old.items ++ 10 ∷ []) }
     ensures err { OnErr result (out.new.items ≡ out.old.items) }
