@@ -10,3 +10,4 @@ pub mod PatternRows
 pub mod Writing
 pub mod SetTexts
 pub mod Drawings
+pub mod Texts

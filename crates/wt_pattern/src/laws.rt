@@ -1,18 +1,31 @@
-// What the first faults mean, as theorems: each is the contract of a function that does nothing.
-ghost use Rattle.std.specs.Prelude.{◌≡◌, ℕ, List, length, None, ℤ, pos, neg_ℤ};
+// What the first faults mean, and which texts are read, as theorems: each is the contract of a function that does
+// nothing.
+ghost use Rattle.std.specs.Prelude.{◌≡◌, ◌≤◌, ℕ, List, length, None, Ok, ℤ, pos, neg_ℤ};
 ghost use Rattle.wt_grid.specs.Axes.{other};
 ghost use Rattle.wt_tile.specs.Matching.{matches};
 ghost use Rattle.wt_grid.specs.declared.axis.Axis.{Axis};
 ghost use Rattle.wt_grid.specs.declared.axis.Axis.TheVariants.{One, Two};
 ghost use Rattle.wt_tile.specs.declared.tile.Tile.{Tile};
-ghost use Rattle.wt_grid.specs.Grid.{Grid, IsGrid, lines};
+ghost use Rattle.wt_grid.specs.Grid.{Grid, IsGrid};
+ghost use Rattle.wt_grid.specs.Grid as grid;
 ghost use Rattle.wt_grid.specs.Lines.{IsField};
 ghost use Rattle.wt_grid.specs.Parts.{AllBelow, IsValid, IsWindow};
 ghost use Rattle.wt_grid.specs.Shifts.{IsRepeated, Repeats};
+ghost use Rattle.wt_line.specs.declared.faults.What.{What};
+ghost use Rattle.wt_tile.specs.declared.tile.TileList.{TileList};
+ghost use Rattle.wt_text.specs.Lines.{lines, bytes_of};
+ghost use Rattle.wt_text.specs.Readers.{whole_text};
+ghost use Rattle.wt_names.specs.Rows.{IsNumbered};
+ghost use Rattle.wt_pattern.specs.TileRows.{tile_rows, rows_spelling, list_rows, IsListed};
+ghost use Rattle.wt_pattern.specs.SetTexts.{as_numbered, RowsFit};
+ghost use Rattle.wt_pattern.specs.PatternRows.{pattern_rows, pattern_lines};
+ghost use Rattle.wt_pattern.specs.Texts.{IsSetText, IsPatternText, HasCellsTo};
 ghost use Rattle.wt_pattern.specs.Patterns.{IsPattern};
 ghost use Rattle.wt_pattern.specs.Periods.{IsPeriod, IsPeriodAlong, first_period_fault};
 ghost use Rattle.wt_pattern.specs.Validity.{first_stranger, first_fault};
 ghost use Rattle.wt_pattern.specs.Windows.{window_size};
+
+use wt_line::MOST;
 
 /// `tiles_fault` finds nothing exactly where each cell is a tile.
 pub fn tiles_faults()
@@ -29,8 +42,8 @@ pub fn faults()
 
 /// Validity by cells and by lines along an axis are the same.
 pub fn valid_lines()
-    ensures to_lines { (ts : List Tile) (axis : Axis) (g : Grid) → IsValid (matches ts) g → IsField (matches ts axis) (matches ts (other axis)) (lines axis g) }
-    ensures to_cells { (ts : List Tile) (axis : Axis) (g : Grid) → IsField (matches ts axis) (matches ts (other axis)) (lines axis g) → IsValid (matches ts) g }
+    ensures to_lines { (ts : List Tile) (axis : Axis) (g : Grid) → IsValid (matches ts) g → IsField (matches ts axis) (matches ts (other axis)) (grid.lines axis g) }
+    ensures to_cells { (ts : List Tile) (axis : Axis) (g : Grid) → IsField (matches ts axis) (matches ts (other axis)) (grid.lines axis g) → IsValid (matches ts) g }
 {}
 
 /// `period_fault` finds nothing exactly where the vector is a period.
@@ -56,12 +69,33 @@ pub fn signs_of_periods()
 
 /// Periods by cells and by lines along an axis are the same.
 pub fn period_lines()
-    ensures to_lines { (axis : Axis) (d a b : ℕ) (g : Grid) → IsRepeated axis d a b g → Repeats a b d (lines axis g) }
-    ensures to_cells { (axis : Axis) (d a b : ℕ) (g : Grid) → Repeats a b d (lines axis g) → IsRepeated axis d a b g }
+    ensures to_lines { (axis : Axis) (d a b : ℕ) (g : Grid) → IsRepeated axis d a b g → Repeats a b d (grid.lines axis g) }
+    ensures to_cells { (axis : Axis) (d a b : ℕ) (g : Grid) → Repeats a b d (grid.lines axis g) → IsRepeated axis d a b g }
 {}
 
 /// The size that `window_shape` gives is that of each window.
 pub fn window_sizes()
     ensures { (n : ℕ) (ts : List Tile) (axis : Axis) (a b r : ℕ) (g : Grid) → IsWindow n (matches ts) axis a b r g
         → (g.width ≡ (window_size axis r).0) × (g.height ≡ (window_size axis r).1) }
+{}
+
+/// A text is read as a list of tiles exactly where it is the text of that list, which has so many tiles and whose
+/// colours are numbered by first coming.
+pub fn set_texts_are_exact()
+    ensures found { (bytes : List ℕ) (n : ℕ) (list : TileList) → whole_text {W = What} (tile_rows n) (lines bytes) ≡ Ok list → IsSetText n list bytes }
+    ensures again { (list : TileList) → IsListed list → whole_text {W = What} (tile_rows (length list.tiles)) (lines (bytes_of (rows_spelling list))) ≡ Ok list }
+{}
+
+/// A list of tiles has a text where its names have their form and its colours are numbered by first coming, with
+/// one name for each colour and no name twice on an axis; and only there.
+pub fn listed_tiles_are_numbered()
+    ensures numbered { (list : TileList) → IsListed list → IsNumbered (as_numbered list) }
+    ensures listed { (list : TileList) → RowsFit (list_rows list) → IsNumbered (as_numbered list) → IsListed list }
+{}
+
+/// A text is read as a pattern of a width and a height exactly where it is the text of a rectangle of that width
+/// and height whose cells are at most 65535.
+pub fn pattern_texts_are_exact()
+    ensures found { (bytes : List ℕ) (w h : ℕ) (g : Grid) → 1 ≤ w → 1 ≤ h → whole_text (pattern_rows w h) (lines bytes) ≡ Ok g → IsPatternText MOST w h g bytes }
+    ensures again { (g : Grid) → HasCellsTo MOST g → whole_text (pattern_rows g.width g.height) (lines (bytes_of (pattern_lines g))) ≡ Ok g }
 {}

@@ -14,7 +14,6 @@ mod rows;
 #[cfg(test)]
 mod tests;
 mod text;
-mod text_laws;
 mod validity;
 mod window;
 mod writing;
@@ -22,15 +21,14 @@ mod writing;
 pub use drawing::{DrawFault, Style, draw};
 pub use fault::{Fault, PartFault, ShapeFault};
 pub use laws::{
-    faults, period_faults, period_lines, period_turns, signs_of_periods, tiles_faults, valid_lines,
-    window_sizes,
+    faults, listed_tiles_are_numbered, pattern_texts_are_exact, period_faults, period_lines,
+    period_turns, set_texts_are_exact, signs_of_periods, tiles_faults, valid_lines, window_sizes,
 };
 pub use parts::{core, part};
 pub use pattern::Pattern;
 pub use periods::period_fault;
 pub use rows::tiles_at;
 pub use text::{pattern_at, read_pattern, read_set};
-pub use text_laws::{listed_tiles_are_numbered, pattern_texts_are_exact, set_texts_are_exact};
 pub use validity::{tiles_fault, valid};
 pub use window::window_shape;
 pub use writing::{pattern_text, push_pattern, push_tiles, write_set};

@@ -1,5 +1,0 @@
-use Rattle.wt_pattern.proofs.PatternTexts.{grid_spelled, grid_read}
-use Rattle.wt_pattern.proofs.text_laws.pattern_texts_are_exact.Goals as goal
-
-pub returns : goal.returns
-returns c = record { found = grid_spelled; again = grid_read }
