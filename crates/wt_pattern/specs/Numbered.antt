@@ -14,6 +14,7 @@ four_names = both name_word (both name_word (both name_word name_word))
 abbrev pub row_words : Row → List ℕ × (List ℕ × (List ℕ × List ℕ))
 row_words r = (r.right.now, (r.top.now, (r.left.now, r.bottom.now)))
 
+-- the four words of a row, as the names of its edges
 abbrev pub row_named : Row → Edges (List ℕ)
 row_named r = record { right = r.right.now; top = r.top.now; left = r.left.now; bottom = r.bottom.now }
 

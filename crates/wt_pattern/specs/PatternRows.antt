@@ -31,6 +31,7 @@ abbrev pub from_bottom : List (List ℕ) → List ℕ
 from_bottom [] = []
 from_bottom (r ∷ rs) = from_bottom rs ++ r
 
+-- rows as a rectangle of this width and height
 abbrev pub rows_grid : ℕ → ℕ → List (List ℕ) → Grid
 rows_grid width height rows = record { width = width; height = height; cells = from_bottom rows }
 
@@ -47,6 +48,7 @@ side_word what (t ∷ ts) = number t >>= λ n. if nat_eq n 0 then None else Some
 abbrev pub shape_form : List (List ℕ) → Result (ℕ × ℕ) (LineFault What)
 shape_form = whole (value_behind (codes "pattern") (both (side_word Width) (side_word Height)))
 
+-- the pattern alone, without the width and the height that its text begins with
 abbrev pub only_rows : (ℕ × ℕ) × Grid → Grid
 only_rows x = x.1
 
@@ -65,6 +67,7 @@ abbrev pub rows_below : Grid → ℕ → List (List ℕ)
 rows_below g zero = []
 rows_below g (suc y) = row_cells g y ∷ rows_below g y
 
+-- the tokens of a row: each cell in decimal
 abbrev pub cells_spelling : List ℕ → List (List ℕ)
 cells_spelling row = map decimal row
 

@@ -45,6 +45,7 @@ unlike g x y (Some k) (Some l) = if nat_eq (cell g x y) (cell g k l) then None e
 abbrev pub period_fault_at : Shift → Shift → Grid → ℕ → ℕ → Option (ℕ × ℕ)
 period_fault_at right up g y x = unlike g x y (shifted right g.width x) (shifted up g.height y)
 
+-- the first such cell of row y, from left to right
 abbrev pub period_fault_in : Shift → Shift → Grid → ℕ → Option (ℕ × ℕ)
 period_fault_in right up g y = first_from (period_fault_at right up g y) 0 g.width
 

@@ -12,12 +12,15 @@ use Rattle.wt_names.specs.Rows.{Edges, NumberedTiles, with_numbers, with_names, 
 abbrev pub row_edges : List ℕ × (List ℕ × (List ℕ × List ℕ)) → Edges (List ℕ)
 row_edges x = record { right = x.0; top = x.1.0; left = x.1.1.0; bottom = x.1.1.1 }
 
+-- the names of a row in their order: right, top, left, bottom
 abbrev pub row_names : Edges (List ℕ) → List ℕ × (List ℕ × (List ℕ × List ℕ))
 row_names e = (e.right, (e.top, (e.left, e.bottom)))
 
+-- a tile by the numbers of its edges
 abbrev pub edges_tile : Edges ℕ → Tile
 edges_tile e = record { east = e.right; north = e.top; west = e.left; south = e.bottom }
 
+-- the numbers of the edges of a tile
 abbrev pub tile_edges : Tile → Edges ℕ
 tile_edges t = record { right = t.east; top = t.north; left = t.west; bottom = t.south }
 
@@ -29,6 +32,7 @@ rows_list rows = record { tiles = map edges_tile (with_numbers rows).tiles; name
 abbrev pub list_rows : TileList → List (Edges (List ℕ))
 list_rows list = with_names (record { tiles = map tile_edges list.tiles; names1 = list.names1; names2 = list.names2 })
 
+-- a part that is read by itself: nothing is carried on from what was read before it
 abbrev pub no_state : {A : Type 0} → ℕ → A → ℕ
 no_state s a = s
 

@@ -13,6 +13,7 @@ use Rattle.wt_pattern.specs.declared.fault.Fault.{Fault}
 abbrev pub stranger_at : ℕ → Grid → ℕ → ℕ → Option (ℕ × ℕ)
 stranger_at n g y x = if nat_lt (cell g x y) n then None else Some (x, y)
 
+-- the first cell of row y that is none of n tiles, from left to right
 abbrev pub stranger_in : ℕ → Grid → ℕ → Option (ℕ × ℕ)
 stranger_in n g y = first_from (stranger_at n g y) 0 g.width
 
@@ -32,6 +33,7 @@ fault_at ts g y x =
     else if clashes ts Two g y x then Some (record { axis = Two; x = x; y = y })
     else None
 
+-- the first fault of row y, from left to right
 abbrev pub fault_in : List Tile → Grid → ℕ → Option Fault
 fault_in ts g y = first_from (fault_at ts g y) 0 g.width
 
