@@ -11,6 +11,7 @@ abbrev pub backwards : {A : Type 0} → List A → List A
 backwards [] = []
 backwards (x ∷ xs) = backwards xs ++ x ∷ []
 
+-- the relation read from its second number to its first
 abbrev pub opposite : (ℕ → ℕ → Bool) → ℕ → ℕ → Bool
 opposite f a b = f b a
 
@@ -28,6 +29,7 @@ abbrev pub cut : Side → (ℕ → Bool) → List (List ℕ) → List (List ℕ)
 cut After marker ls = cut_lines marker ls
 cut Before marker ls = backwards (cut_lines marker (backwards ls))
 
+-- the image with its two tiles exchanged
 abbrev pub flip : Image → Image
 flip (Single a) = Single a
 flip (Double a b) = Double b a
@@ -37,11 +39,13 @@ abbrev pub step_table : Side → (ℕ → ℕ → Bool) → (ℕ → ℕ → Boo
 step_table After along across marker images = record { marker = marker; along = along; across = across; images = images }
 step_table Before along across marker images = record { marker = marker; along = opposite along; across = across; images = map flip images }
 
+-- the lines without the last one
 abbrev pub all_but_last : List (List ℕ) → List (List ℕ)
 all_but_last [] = []
 all_but_last (x ∷ []) = []
 all_but_last (x ∷ y ∷ xs) = x ∷ all_but_last (y ∷ xs)
 
+-- the lines without the first one
 abbrev pub all_but_first : List (List ℕ) → List (List ℕ)
 all_but_first [] = []
 all_but_first (x ∷ xs) = xs

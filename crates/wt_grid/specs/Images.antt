@@ -61,6 +61,7 @@ abbrev pub LineBelow : ℕ → List ℕ → Type 0
 LineBelow n [] = Unit {0}
 LineBelow n (a ∷ as') = (a < n) × LineBelow n as'
 
+-- each number of all lines is below n
 abbrev pub LinesBelow : ℕ → List (List ℕ) → Type 0
 LinesBelow n [] = Unit {0}
 LinesBelow n (u ∷ ls) = LineBelow n u × LinesBelow n ls

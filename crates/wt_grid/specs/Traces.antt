@@ -15,6 +15,7 @@ segment axis g i j n = listed n (λ k. at axis g (i + k) j)
 abbrev pub cells_at : ℕ → List (List ℕ) → List ℕ
 cells_at j ls = map (λ u. slice_index u j) ls
 
+-- the one or two tiles of an image, in their order
 abbrev pub piece_tiles : Image → List ℕ
 piece_tiles (Single a) = a ∷ []
 piece_tiles (Double a b) = a ∷ b ∷ []

@@ -4,6 +4,7 @@ use Rattle.std.specs.List.{range_with_len, list_any}
 use Rattle.wt_grid.specs.Order.{in_order, is_below, agree, comes_before}
 use Rattle.wt_marker.specs.Gather.{gather, only_if, any_from, fold_from}
 
+-- a is a tile of the class
 abbrev pub is_in : List ℕ → ℕ → Bool
 is_in c a = list_any (nat_eq a) c
 
@@ -34,9 +35,11 @@ BeginsBelow c d = (t : ℕ) × (is_in c t ≡ true) × ((b : ℕ) → is_in d b 
 
 -- How they are found: each tile has a label, that of its class, which is the least tile of it.
 
+-- the label of tile a
 abbrev pub label : List ℕ → ℕ → ℕ
 label labels a = slice_index labels a
 
+-- the new label in place of the old one, and each other label as it is
 abbrev pub instead : ℕ → ℕ → ℕ → ℕ
 instead old new l = if nat_eq l old then new else l
 
@@ -44,9 +47,11 @@ instead old new l = if nat_eq l old then new else l
 abbrev pub join : List ℕ → ℕ → ℕ → List ℕ
 join labels a b = map (instead (max (label labels a) (label labels b)) (min (label labels a) (label labels b))) labels
 
+-- the classes of a and b made one, where the two form a domino
 abbrev pub join_at : (ℕ → ℕ → Bool) → ℕ → List ℕ → ℕ → List ℕ
 join_at f a labels b = if f a b then join labels a b else labels
 
+-- the class of a joined with those of all tiles that it forms a domino with
 abbrev pub join_row : (ℕ → ℕ → Bool) → ℕ → List ℕ → ℕ → List ℕ
 join_row f n labels a = fold_from (join_at f a) labels 0 n
 
@@ -54,6 +59,7 @@ join_row f n labels a = fold_from (join_at f a) labels 0 n
 abbrev pub labels_of : (ℕ → ℕ → Bool) → ℕ → List ℕ
 labels_of f n = fold_from (join_row f n) (range_with_len 0 n) 0 n
 
+-- a is in the class of t
 abbrev pub has_label : List ℕ → ℕ → ℕ → Bool
 has_label labels t a = nat_eq (label labels a) t
 
@@ -61,9 +67,11 @@ has_label labels t a = nat_eq (label labels a) t
 abbrev pub meets_at : (ℕ → ℕ → Bool) → List ℕ → ℕ → Bool → ℕ → ℕ → Bool
 meets_at g labels t inside b a = agree (has_label labels t a) inside && g a b
 
+-- tile b is in the class of t, and such a domino ends with it
 abbrev pub meets_row : (ℕ → ℕ → Bool) → List ℕ → ℕ → ℕ → Bool → ℕ → Bool
 meets_row g labels n t inside b = has_label labels t b && any_from (meets_at g labels t inside b) 0 n
 
+-- some domino of g ends in the class of t, and begins in it or not
 abbrev pub meets : (ℕ → ℕ → Bool) → List ℕ → ℕ → ℕ → Bool → Bool
 meets g labels n t inside = any_from (meets_row g labels n t inside) 0 n
 
@@ -71,12 +79,15 @@ meets g labels n t inside = any_from (meets_row g labels n t inside) 0 n
 abbrev pub is_kept : (ℕ → ℕ → Bool) → List ℕ → ℕ → ℕ → Bool
 is_kept g labels n t = has_label labels t t && not (meets g labels n t true) && meets g labels n t false
 
+-- tile a alone, where it is in the class of t
 abbrev pub member_at : List ℕ → ℕ → ℕ → List ℕ
 member_at labels t a = only_if (has_label labels t a) a
 
+-- the tiles of the class of t, ascending
 abbrev pub class_of : List ℕ → ℕ → ℕ → List ℕ
 class_of labels n t = gather (member_at labels t) 0 n
 
+-- the class of t alone, where it is kept and t is its least tile
 abbrev pub class_at : (ℕ → ℕ → Bool) → List ℕ → ℕ → ℕ → List (List ℕ)
 class_at g labels n t = only_if (is_kept g labels n t) (class_of labels n t)
 

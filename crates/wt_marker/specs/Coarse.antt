@@ -27,6 +27,7 @@ abbrev pub is_joined : List Tile → Axis → Image → Bool
 is_joined ts axis (Single a) = true
 is_joined ts axis (Double a b) = matches ts axis a b
 
+-- two edges show the same: one colour, or the same two in the same order
 abbrev pub same_edge : Edge → Edge → Bool
 same_edge (single a) (single b) = nat_eq a b
 same_edge (single a) (pair b c) = false
@@ -42,6 +43,7 @@ place e (x ∷ xs) = if same_edge e x then 0 else suc (place e xs)
 abbrev pub come : List Edge → Edge → List Edge
 come seen e = if list_any (same_edge e) seen then seen else seen ++ e ∷ []
 
+-- those that came, then one edge, and then another
 abbrev pub come_both : List Edge → Edge → Edge → List Edge
 come_both seen e w = come (come seen e) w
 
@@ -54,6 +56,7 @@ number_tile seen1 seen2 t = record {
   south = place t.south (come seen2 t.north);
 }
 
+-- the tiles of these edges, each numbered behind those before it
 abbrev pub number_tiles : List Edge → List Edge → List Fused → List Tile
 number_tiles seen1 seen2 [] = []
 number_tiles seen1 seen2 (t ∷ ts) = number_tile seen1 seen2 t ∷ number_tiles (come_both seen1 t.east t.west) (come_both seen2 t.north t.south) ts

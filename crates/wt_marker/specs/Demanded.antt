@@ -20,6 +20,7 @@ is_free_at Before f m u v = not (m v) && f v u
 abbrev pub is_single : Side → (ℕ → ℕ → Bool) → (ℕ → Bool) → ℕ → ℕ → Bool
 is_single side f m n u = not (m u) && any_from (is_free_at side f m u) 0 n
 
+-- tile u as an image of its own, where one is demanded
 abbrev pub single_at : Side → (ℕ → ℕ → Bool) → (ℕ → Bool) → ℕ → ℕ → List Image
 single_at side f m n u = only_if (is_single side f m n u) (Single u)
 

@@ -39,6 +39,7 @@ pub record Plan : Type 0 where
   pub one : ℕ → ℕ → Bool
   pub two : ℕ → ℕ → Bool
 
+-- the plan of these parts
 abbrev pub plan : TileList → Axis → Side → ℕ → List ℕ → (ℕ → ℕ → Bool) → (ℕ → ℕ → Bool) → Plan
 plan fine axis side radius class one two = record { fine = fine; axis = axis; side = side; radius = radius; class = class; one = one; two = two }
 
@@ -46,6 +47,7 @@ plan fine axis side radius class one two = record { fine = fine; axis = axis; si
 abbrev pub dominoes : Plan → Axis → ℕ → ℕ → Bool
 dominoes p axis = on axis p.one p.two
 
+-- how many tiles the plan's set has
 abbrev pub tiles_of : Plan → ℕ
 tiles_of p = length p.fine.tiles
 
@@ -57,6 +59,7 @@ pub record IsPlan (p : Plan) : Type 0 where
 
 -- Pairs.
 
+-- the dominoes of an axis as a list, by the first and then by the second tile
 abbrev pub allowed_pairs : Plan → Axis → List (ℕ × ℕ)
 allowed_pairs p axis = pairs_of (dominoes p axis) (tiles_of p)
 
@@ -71,6 +74,7 @@ pub record IsRefutable (ts : List Tile) (axis : Axis) (radius : ℕ) (q : ℕ ×
   pub fits : matches ts axis q.0 q.1 ≡ true
   pub empty : IsEmptyWindow ts axis q.0 q.1 radius
 
+-- the matching pairs of an axis that are no domino, by the first and then by the second tile
 abbrev pub refuted_pairs : List Tile → Axis → (ℕ → ℕ → Bool) → List (ℕ × ℕ)
 refuted_pairs ts axis f = pairs_of (is_refuted ts axis f) (length ts)
 
@@ -80,6 +84,7 @@ refuted_pairs ts axis f = pairs_of (is_refuted ts axis f) (length ts)
 abbrev pub tree_at : List Tile → ℕ → Axis → ℕ × ℕ → Refutation
 tree_at ts radius axis q = standard_tree ts axis q.0 q.1 radius []
 
+-- the refutation of a pair: its standard tree, with the step's radius
 abbrev pub entry_of : List Tile → ℕ → Axis → ℕ × ℕ → Refuted
 entry_of ts radius axis q = record { axis = axis; a = q.0; b = q.1; radius = radius; tree = tree_of (tree_at ts radius axis q) }
 
@@ -91,6 +96,7 @@ entries ts radius axis f = map (entry_of ts radius axis) (refuted_pairs ts axis 
 abbrev pub spent_at : List Tile → ℕ → ℕ → Axis → ℕ × ℕ → Option DeriveEnd
 spent_at ts radius budget axis q = if nat_lt budget (node_count (tree_at ts radius axis q)) then Some (Spent axis q.0 q.1) else None
 
+-- the first pair of an axis whose tree has more nodes than the budget
 abbrev pub first_spent : List Tile → ℕ → ℕ → Axis → (ℕ → ℕ → Bool) → Option DeriveEnd
 first_spent ts radius budget axis f = first_in (spent_at ts radius budget axis) (refuted_pairs ts axis f)
 
@@ -99,6 +105,7 @@ abbrev pub nodes_of : List Tile → ℕ → Axis → List (ℕ × ℕ) → ℕ
 nodes_of ts radius axis [] = 0
 nodes_of ts radius axis (q ∷ qs) = node_count (tree_at ts radius axis q) + nodes_of ts radius axis qs
 
+-- the nodes of all trees of an axis, together
 abbrev pub nodes_in : List Tile → ℕ → Axis → (ℕ → ℕ → Bool) → ℕ
 nodes_in ts radius axis f = nodes_of ts radius axis (refuted_pairs ts axis f)
 
@@ -115,12 +122,15 @@ trees_fault ts radius one two budget =
 abbrev pub images_with : Side → (ℕ → ℕ → Bool) → List ℕ → ℕ → List Image
 images_with side f class n = demanded side f (pairs_of f n) (is_in class) n
 
+-- the images that the plan demands
 abbrev pub images_of : Plan → List Image
 images_of p = images_with p.side (dominoes p p.axis) p.class (tiles_of p)
 
+-- the four edges of each of these images
 abbrev pub edges_in : Plan → List Fused
 edges_in p = map (edges_of p.fine.tiles p.axis) (images_of p)
 
+-- two images that are one tile, as a reason
 abbrev pub repeated_pair : ℕ × ℕ → DeriveEnd
 repeated_pair q = Repeated q.0 q.1
 

@@ -7,6 +7,7 @@ use Rattle.wt_refute.specs.View.{refutation}
 use Rattle.wt_tile.specs.Names.{IsName}
 use Rattle.wt_step.specs.declared.raw.RawStep.{RawStep}
 
+-- how many children a node has
 abbrev pub branch_count : Branches → ℕ
 branch_count no_more = 0
 branch_count (more tile tree others) = suc (branch_count others)
