@@ -1,0 +1,5 @@
+pub mod Asked
+pub mod Found
+pub mod States
+pub mod Small
+pub mod Enough
