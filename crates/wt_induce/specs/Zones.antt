@@ -1,0 +1,66 @@
+-- The window of an axis, its two zones, and half-planes moved along the axis.
+use Rattle.std.specs.Prelude.{pos, Bool, true, false, if◌then◌else◌}
+use Rattle.wt_grid.specs.declared.axis.Axis.TheVariants.{One, Two}
+use Rattle.wt_grid.specs.declared.axis.Axis.{Axis}
+use Rattle.wt_golden.specs.Whole.{whole, opposite}
+use Rattle.wt_golden.specs.Fractions.{Fraction, top, lowest, sum, difference}
+use Rattle.wt_plane.specs.HalfPlanes.{Half, moved_half}
+use Rattle.wt_torus.specs.Boxes.{Rotation, length_of, move_of, is_below}
+
+-- The window on an axis: the coordinates below its size, the move of first returns on it, the bound between those that
+-- return after one turn and those that return after two.
+pub record Frame : Type 0 where
+  pub size : Fraction
+  pub move : Fraction
+  pub bound : Fraction
+  pub single_below : Bool
+
+-- two times the number
+abbrev pub twice : Fraction → Fraction
+twice f = sum f f
+
+-- for a move of less than half of the length, and for one of more: what the length is more than the move is the window's
+-- size, or the bound
+abbrev pub frame : Fraction → Fraction → Frame
+frame length move =
+    let rest = lowest (difference length move) in
+    if is_below (top (twice move)) (twice move).d length
+    then record { size = rest; move = move; bound = lowest (difference rest move); single_below = true }
+    else record { size = move; move = lowest (difference move rest); bound = rest; single_below = false }
+
+-- the window of a rotation along an axis
+abbrev pub frame_on : Axis → Rotation → Frame
+frame_on axis r = frame (length_of axis r) (move_of axis r)
+
+-- the rotation of the window
+abbrev pub framed : Axis → Rotation → Rotation
+framed One r = record { width = (frame_on One r).size; height = r.height; move1 = (frame_on One r).move; move2 = r.move2 }
+framed Two r = record { width = r.width; height = (frame_on Two r).size; move1 = r.move1; move2 = (frame_on Two r).move }
+
+-- t - f > 0 along the axis, before common divisors are taken out
+abbrev pub beyond : Axis → Fraction → Half
+beyond One f = record { p = whole f.d; q = whole (pos 0); r = opposite (top f) }
+beyond Two f = record { p = whole (pos 0); q = whole f.d; r = opposite (top f) }
+
+-- f - t > 0
+abbrev pub beneath : Axis → Fraction → Half
+beneath One f = record { p = opposite (whole f.d); q = whole (pos 0); r = top f }
+beneath Two f = record { p = whole (pos 0); q = opposite (whole f.d); r = top f }
+
+-- the number 0
+abbrev pub zero_fraction : Fraction
+zero_fraction = record { a = pos 0; b = pos 0; d = pos 1 }
+
+-- holds at a point where h holds at the point moved by f along the axis
+abbrev pub moved_along : Axis → Fraction → Half → Half
+moved_along One f h = moved_half h f zero_fraction
+moved_along Two f h = moved_half h zero_fraction f
+
+-- the ends of the zone below the bound, and of the zone above it
+abbrev pub zone_low : Frame → Bool → Fraction
+zone_low w true = zero_fraction
+zone_low w false = w.bound
+
+abbrev pub zone_high : Frame → Bool → Fraction
+zone_high w true = w.bound
+zone_high w false = w.size
