@@ -35,7 +35,7 @@ behind_tiles (Double a b) (suc w) xs ys e =
     ap (λ (zs : List ℕ). a ∷ b ∷ zs) f
 
 -- w tiles give w cells and more
-cut_tiles : (f : ℕ → Image) (w : ℕ) (row : List ℕ) → take w (flat_map (λ t. piece_tiles (f t)) (take w row)) ≡ take w (flat_map (λ t. piece_tiles (f t)) row)
+pub cut_tiles : (f : ℕ → Image) (w : ℕ) (row : List ℕ) → take w (flat_map (λ t. piece_tiles (f t)) (take w row)) ≡ take w (flat_map (λ t. piece_tiles (f t)) row)
 cut_tiles f zero row = refl
 cut_tiles f (suc w) [] = refl
 cut_tiles f (suc w) (t ∷ ts) = behind_tiles (f t) w (flat_map (λ t. piece_tiles (f t)) (take w ts)) (flat_map (λ t. piece_tiles (f t)) ts) (cut_tiles f w ts)

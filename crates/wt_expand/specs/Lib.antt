@@ -11,3 +11,5 @@ pub mod Expansion
 pub mod Ready
 pub mod Wholes
 pub mod Spaces
+pub mod PieceTables
+pub mod Words

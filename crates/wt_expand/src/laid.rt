@@ -8,11 +8,16 @@ ghost use Rattle.wt_expand.specs.Rows.{bit};
 ghost use Rattle.wt_expand.specs.Walks.{has_two, laid};
 ghost use Rattle.wt_expand.specs.Blocks.{piece_under, standing_of};
 ghost use Rattle.wt_expand.specs.Ladders.{level_of};
+ghost use Rattle.wt_expand.specs.PieceTables.{Holds};
 ghost use Rattle.wt_expand.specs.Blocks as blocks;
 
 use crate::ladder::{Ladder, LevelRef};
 use crate::rungs::is_along;
+use crate::table::{PieceTable, table_of};
 use wt_morphism::Image;
+
+/// From how many tiles on a row is long, so that a table of its level pays.
+const LONG: usize = 64;
 
 /// Writes a tile behind the first ones, while there is room, and tells how many there are then.
 fn put(row: &mut [u16], len: usize, tile: u16) -> usize
@@ -62,7 +67,7 @@ fn lay_along(ladder: &Ladder<'_>, level: LevelRef<'_>, above: &[u16], row: &mut 
 }
 
 /// The lower or the upper tile of an image.
-fn tile_of(upper: bool, image: Image) -> u16
+pub fn tile_of(upper: bool, image: Image) -> u16
     ensures { result ≡ blocks.tile_of upper (images.piece image) }
 {
     match image {
@@ -91,8 +96,8 @@ fn lay_across(
     count
 }
 
-/// Lays the lower or the upper row that a row stands for.
-fn lay_row(
+/// Lays the lower or the upper row that a short row stands for.
+fn lay_short(
     ladder: &Ladder<'_>,
     level: LevelRef<'_>,
     above: &[u16],
@@ -109,6 +114,143 @@ fn lay_row(
         lay_along(ladder, level, above, row)
     } else {
         lay_across(ladder, level, above, upper, row)
+    }
+}
+
+/// Writes what a tile stands for behind the first tiles, while there is room, and tells how many there are then.
+/// Where there is room for two, both ends are written, whether both count or not.
+fn put_piece(
+    ladder: &Ladder<'_>,
+    level: LevelRef<'_>,
+    table: &PieceTable,
+    row: &mut [u16],
+    len: usize,
+    tile: u16,
+) -> usize
+    requires within { len ≤ length row.old }
+    requires table { Holds table.now ladder.now.renaming.now (level_of level) }
+    ensures put { take result row.new
+        ≡ take (length row.old) (take len row.old ++ piece_tiles (piece_under ladder.now.renaming.now (level_of level.entry) tile)) }
+    ensures within { result ≤ length row.new }
+    ensures room { length row.new ≡ length row.old }
+{
+    let t = usize::from(tile);
+    if t < table.count && row.len() - len >= 2 {
+        row[len] = table.firsts[t];
+        row[len + 1] = table.lasts[t];
+        return len + usize::from(table.lens[t]);
+    }
+    put_image(row, len, ladder.piece(level, tile))
+}
+
+/// Lays the pieces of a long row's tiles one after another, as `lay_along` does.
+fn lay_long_along(
+    ladder: &Ladder<'_>,
+    level: LevelRef<'_>,
+    table: &PieceTable,
+    above: &[u16],
+    row: &mut [u16],
+) -> usize
+    requires { Holds table.now ladder.now.renaming.now (level_of level) }
+    ensures laid { take result row.new
+        ≡ take (length row.old) (flat_map (λ t. piece_tiles (piece_under ladder.now.renaming.now (level_of level.entry) t)) above.now) }
+    ensures within { result ≤ length row.new }
+    ensures room { length row.new ≡ length row.old }
+{
+    let mut len = 0;
+    for tile in above {
+        if len == row.len() {
+            return len;
+        }
+        len = put_piece(ladder, level, table, row, len, *tile);
+    }
+    len
+}
+
+/// The lower or the upper tile of what a tile stands for.
+fn end_of(
+    ladder: &Ladder<'_>,
+    level: LevelRef<'_>,
+    table: &PieceTable,
+    upper: bool,
+    tile: u16,
+) -> u16
+    requires { Holds table.now ladder.now.renaming.now (level_of level) }
+    ensures { result ≡ blocks.tile_of upper (piece_under ladder.now.renaming.now (level_of level.entry) tile) }
+{
+    let t = usize::from(tile);
+    if t >= table.count {
+        return tile_of(upper, ladder.piece(level, tile));
+    }
+    if upper {
+        table.lasts[t]
+    } else {
+        table.firsts[t]
+    }
+}
+
+/// Lays the lower or the upper tiles of a long row's pieces, as `lay_across` does.
+fn lay_long_across(
+    ladder: &Ladder<'_>,
+    level: LevelRef<'_>,
+    table: &PieceTable,
+    above: &[u16],
+    upper: bool,
+    row: &mut [u16],
+) -> usize
+    requires { Holds table.now ladder.now.renaming.now (level_of level) }
+    ensures laid { take result row.new
+        ≡ take (length row.old) (map (λ t. blocks.tile_of upper (piece_under ladder.now.renaming.now (level_of level.entry) t)) above.now) }
+    ensures within { result ≤ length row.new }
+    ensures room { length row.new ≡ length row.old }
+{
+    let count = above.len().min(row.len());
+    for x in 0..count {
+        row[x] = end_of(ladder, level, table, upper, above[x]);
+    }
+    count
+}
+
+/// Lays the lower or the upper row that a long row stands for.
+fn lay_long(
+    ladder: &Ladder<'_>,
+    level: LevelRef<'_>,
+    above: &[u16],
+    upper: bool,
+    row: &mut [u16],
+) -> usize
+    requires inside { upper ≡ true → has_two ladder.now.renaming.now (level_of level) above.now ≡ true }
+    ensures laid { take result row.new
+        ≡ take (length row.old) (slice_index_or (rows_below ladder.now.renaming.now (level_of level.entry) above.now) (bit upper) []) }
+    ensures within { result ≤ length row.new }
+    ensures room { length row.new ≡ length row.old }
+{
+    let table = table_of(ladder, level);
+    if is_along(level.link) {
+        lay_long_along(ladder, level, &table, above, row)
+    } else {
+        lay_long_across(ladder, level, &table, above, upper, row)
+    }
+}
+
+/// Lays the lower or the upper row that a row stands for.
+fn lay_row(
+    ladder: &Ladder<'_>,
+    level: LevelRef<'_>,
+    above: &[u16],
+    upper: bool,
+    row: &mut [u16],
+) -> usize
+    requires inside { upper ≡ true → has_two ladder.now.renaming.now (level_of level) above.now ≡ true }
+    ensures laid { take result row.new
+        ≡ take (length row.old) (slice_index_or (rows_below ladder.now.renaming.now (level_of level.entry) above.now) (bit upper) []) }
+    ensures within { result ≤ length row.new }
+    ensures room { length row.new ≡ length row.old }
+{
+    if above.len() < LONG {
+        lay_short(ladder, level, above, upper, row)
+    } else {
+        lay_long(ladder, level, above, upper, row)
     }
 }
 

@@ -1,6 +1,7 @@
 // What the rows of a pick are, level by level.
 ghost use Rattle.std.specs.Prelude.{◌≡◌, ◌+◌, ◌*◌, ◌∷◌, ◌<◌, ◌≤◌, None, ℕ, List, [], max, length, take, drop, slice_index_or};
 ghost use Rattle.wt_grid.specs.declared.axis.Axis.TheVariants.{Two};
+ghost use Rattle.std.specs.List.{flat_map};
 ghost use Rattle.wt_grid.specs.Grid.{lines};
 ghost use Rattle.wt_chain.specs.declared.raw.RawChain.{RawChain};
 ghost use Rattle.wt_chain.specs.declared.raw.End.TheVariants.{Loop};
@@ -11,6 +12,7 @@ ghost use Rattle.wt_expand.specs.Levels.{Level};
 ghost use Rattle.wt_expand.specs.Levels as spec;
 ghost use Rattle.wt_expand.specs.Rows.{all_rows, Standing, row_number, Fits};
 ghost use Rattle.wt_expand.specs.Picks.{HasRows};
+ghost use Rattle.wt_expand.specs.Words.{words, row_at};
 
 /// The rows of the rectangle that turns of a good chain's loop make of tile 0, taken down the steps before the
 /// loop, are the rows that come below tile 0 level by level, each row as one row or two.
@@ -25,6 +27,13 @@ pub fn short_rows_are_rows()
     ensures { (w : ℕ) → 1 ≤ w → (renaming : List ℕ) (levels : List Level) (s : Standing) (ss : List Standing) → Fits w renaming levels (s ∷ ss)
         → (row_number renaming levels (s ∷ ss) < length (all_rows renaming levels))
         × (s.row ≡ take w (slice_index_or (all_rows renaming levels) (row_number renaming levels (s ∷ ss)) [])) }
+{}
+
+/// Where rows stand below one another, the first is laid of the row k levels up alone, word by word: what a tile there
+/// comes to is told by which rows between are the lower or the upper ones.
+pub fn rows_are_words()
+    ensures { (w : ℕ) → 1 ≤ w → (renaming : List ℕ) (levels : List Level) (s : Standing) (ss : List Standing) → Fits w renaming levels (s ∷ ss) → (k : ℕ) → k ≤ length levels
+        → s.row ≡ take w (flat_map (words renaming (take k levels) (s ∷ ss)) (row_at k (s ∷ ss))) }
 {}
 
 /// Over a good looped chain the rows of the pick of w by h cells are the lowest h of all rows below its levels,

@@ -1,0 +1,33 @@
+-- What a tile some levels up stands for in one row of the first level.
+use Rattle.std.specs.Prelude.{ℕ, zero, suc, Bool, List, [], ◌∷◌}
+use Rattle.wt_grid.specs.declared.image.Image.TheVariants.{One as Single}
+use Rattle.wt_grid.specs.declared.image.Image.{Image}
+use Rattle.wt_grid.specs.declared.axis.Axis.TheVariants.{One, Two}
+use Rattle.wt_grid.specs.declared.axis.Axis.{Axis}
+use Rattle.std.specs.List.{flat_map}
+use Rattle.wt_grid.specs.Traces.{piece_tiles}
+use Rattle.wt_chain.specs.Turns.{axis_of}
+use Rattle.wt_expand.specs.Levels.{Level}
+use Rattle.wt_expand.specs.Rows.{Standing}
+use Rattle.wt_expand.specs.Blocks.{piece_under, tile_of}
+
+-- what is laid of a piece in the lower or the upper row: along axis 1 all of it, along axis 2 one end
+abbrev pub laid_piece : Axis → Bool → Image → Image
+laid_piece One upper p = p
+laid_piece Two upper p = Single (tile_of upper p)
+
+-- the tiles that are laid of a tile of the row above
+abbrev pub word : List ℕ → Level → Bool → ℕ → List ℕ
+word renaming level upper t = piece_tiles (laid_piece (axis_of level.link) upper (piece_under renaming level t))
+
+-- the tiles that are laid of a tile above several levels, where their rows are the lower or upper ones as these stand
+abbrev pub words : List ℕ → List Level → List Standing → ℕ → List ℕ
+words renaming [] ss t = t ∷ []
+words renaming (level ∷ levels) [] t = t ∷ []
+words renaming (level ∷ levels) (s ∷ ss) t = flat_map (word renaming level s.upper) (words renaming levels ss t)
+
+-- the row of the k-th that stands
+abbrev pub row_at : ℕ → List Standing → List ℕ
+row_at k [] = []
+row_at zero (s ∷ ss) = s.row
+row_at (suc k) (s ∷ ss) = row_at k ss

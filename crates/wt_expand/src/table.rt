@@ -1,0 +1,60 @@
+// What the tiles of a row stand for, looked up once for each tile of the set.
+ghost use Rattle.std.specs.Prelude.{◌≡◌, ◌≤◌, length};
+ghost use Rattle.wt_grid.specs.Traces.{piece_tiles};
+ghost use Rattle.wt_morphism.specs.Images as spec;
+ghost use Rattle.wt_expand.specs.Ladders.{level_of};
+ghost use Rattle.wt_expand.specs.PieceTables.{Holds};
+
+use crate::ladder::{Ladder, LevelRef};
+use crate::laid::tile_of;
+use wt_morphism::Image;
+use wt_step::RawLink;
+
+/// For the first tiles of a set, so many, the two ends of what they stand for and how many tiles that is.
+#[derive(Drop)]
+pub struct PieceTable {
+    pub firsts: [u16; 256],
+    pub lasts: [u16; 256],
+    pub lens: [u8; 256],
+    pub count: usize,
+}
+
+/// How many tiles have an image.
+fn image_count(link: &RawLink) -> usize {
+    match link {
+        RawLink::Marker(step) => step.images.as_slice().len(),
+        RawLink::Restrict(step) => step.kept.as_slice().len(),
+    }
+}
+
+/// How many tiles an image has.
+fn len_of(image: Image) -> u8
+    ensures { result ≡ length (piece_tiles (spec.piece image)) }
+{
+    match image {
+        Image::One(_) => 1,
+        Image::Two(_, _) => 2,
+    }
+}
+
+/// The table of a level.
+pub fn table_of(ladder: &Ladder<'_>, level: LevelRef<'_>) -> PieceTable
+    ensures { Holds result ladder.now.renaming.now (level_of level.entry) }
+{
+    let mut firsts = [0u16; 256];
+    let mut lasts = [0u16; 256];
+    let mut lens = [0u8; 256];
+    let count = image_count(level.link).min(256);
+    for t in 0..count {
+        let image = ladder.piece(level, t as u16);
+        firsts[t] = tile_of(false, image);
+        lasts[t] = tile_of(true, image);
+        lens[t] = len_of(image);
+    }
+    PieceTable {
+        firsts,
+        lasts,
+        lens,
+        count,
+    }
+}
