@@ -13,7 +13,7 @@ use Rattle.wt_step.specs.Meaning.{pieces_of}
 use Rattle.wt_chain.specs.Turns.{axis_of}
 use Rattle.wt_expand.specs.Levels.{Level, named_row, laid_rows, rows_below}
 use Rattle.wt_expand.specs.Rows.{bit}
-use Rattle.wt_expand.specs.Walks.{lays_two, has_two}
+use Rattle.wt_expand.specs.LaidRows.{lays_two, has_two}
 
 pub take_twice : {A : Type 0} (n : ℕ) (xs : List A) → take n (take n xs) ≡ take n xs
 take_twice zero xs = refl

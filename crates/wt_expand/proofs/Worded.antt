@@ -8,8 +8,8 @@ use Rattle.std.proofs.lemmas.List.{take_all, length-take}
 use Rattle.wt_grid.specs.Traces.{piece_tiles}
 use Rattle.wt_chain.specs.Turns.{axis_of}
 use Rattle.wt_expand.specs.Levels.{Level, rows_below}
-use Rattle.wt_expand.specs.Rows.{Standing, bit, Fits}
-use Rattle.wt_expand.specs.Walks.{has_two}
+use Rattle.wt_expand.specs.Rows.{Digit, bit, AreDigits}
+use Rattle.wt_expand.specs.LaidRows.{has_two}
 use Rattle.wt_expand.specs.Blocks.{piece_under, tile_of}
 use Rattle.wt_expand.specs.Words.{laid_piece, word, words, row_at}
 use Rattle.wt_expand.proofs.Cut.{cut_tiles, count_below}
@@ -50,25 +50,25 @@ module _ (w : ℕ) (some : 1 ≤ w) (renaming : List ℕ) where
       by One e = row_along renaming level row upper e inside ∙ as_first (axis_of level.link) upper (piece_under renaming level) row e
       by Two e = row_across renaming level row upper e inside ∙ as_second (axis_of level.link) upper (piece_under renaming level) row e
 
-  few_cells : (levels : List Level) (s : Standing) (ss : List Standing) → Fits w renaming levels (s ∷ ss) → length s.row ≤ w
+  few_cells : (levels : List Level) (s : Digit) (ss : List Digit) → AreDigits w renaming levels (s ∷ ss) → length s.row ≤ w
   few_cells [] s [] f = let e : length s.row ≡ 1 = ap length f in omega (arith, e, some)
   few_cells [] s (t ∷ ss) f = absurd f
   few_cells (level ∷ levels) s [] f = absurd f
   few_cells (level ∷ levels) s (t ∷ ss) f =
-      let cells = get_or (rows_below renaming level t.row) (bit s.upper) [] in
+      let cells = get_or (rows_below renaming level t.row) (bit s.is_upper) [] in
       omega (arith, ap length f.0.row, length-take w cells)
 
-  pub worded : (k : ℕ) (levels : List Level) (s : Standing) (ss : List Standing) → Fits w renaming levels (s ∷ ss) → k ≤ length levels
+  pub worded : (k : ℕ) (levels : List Level) (s : Digit) (ss : List Digit) → AreDigits w renaming levels (s ∷ ss) → k ≤ length levels
       → s.row ≡ take w (flat_map (words renaming (take k levels) (s ∷ ss)) (row_at k (s ∷ ss)))
   worded zero levels s ss f le = sym (ap (take w) (one_each s.row) ∙ take_all w s.row (few_cells levels s ss f))
   worded (suc k) [] s ss f le = absurd (omega arith)
   worded (suc k) (level ∷ levels) s [] f le = absurd f
   worded (suc k) (level ∷ levels) s (t ∷ ss) f le =
-      let g = word renaming level s.upper in
+      let g = word renaming level s.is_upper in
       let above = flat_map (words renaming (take k levels) (t ∷ ss)) (row_at k (t ∷ ss)) in
-      let inside : s.upper ≡ true → has_two renaming level t.row ≡ true =
-      has s.upper (has_two renaming level t.row) (let i = f.0.inside in let n = count_below renaming level t.row in omega (arith, i, n)) in
-      f.0.row ∙ ap (take w) (row_words level t.row s.upper inside)
+      let inside : s.is_upper ≡ true → has_two renaming level t.row ≡ true =
+      has s.is_upper (has_two renaming level t.row) (let i = f.0.inside in let n = count_below renaming level t.row in omega (arith, i, n)) in
+      f.0.row ∙ ap (take w) (row_words level t.row s.is_upper inside)
       ∙ ap (λ (xs : List ℕ). take w (flat_map g xs)) (worded k levels t ss f.1 (omega (arith, le)))
-      ∙ cut_tiles (λ t. laid_piece (axis_of level.link) s.upper (piece_under renaming level t)) w above
+      ∙ cut_tiles (λ t. laid_piece (axis_of level.link) s.is_upper (piece_under renaming level t)) w above
       ∙ ap (take w) (flat_flat g (words renaming (take k levels) (t ∷ ss)) (row_at k (t ∷ ss)))

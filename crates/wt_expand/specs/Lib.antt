@@ -1,9 +1,9 @@
 pub mod Levels
 pub mod Rows
-pub mod Walks
-pub mod Steps
+pub mod LaidRows
+pub mod Advances
 pub mod Blocks
-pub mod Ladders
+pub mod Counters
 pub mod Picks
 pub mod Sides
 pub mod Turn

@@ -14,6 +14,6 @@ pub record IsPiece (firsts lasts lens : List ℕ) (t : ℕ) (p : Image) : Type 0
   pub count : slice_index lens t ≡ length (piece_tiles p)
 
 -- the first tiles of the set above a step have the entries of what they stand for
-pub record Holds (table : PieceTable) (renaming : List ℕ) (level : Level) : Type 0 where
+pub record HasPieces (table : PieceTable) (renaming : List ℕ) (level : Level) : Type 0 where
   pub within : table.count ≤ 256
   pub each : (t : ℕ) → t < table.count → IsPiece table.firsts table.lasts table.lens t (piece_under renaming level t)

@@ -3,16 +3,13 @@ ghost use Rattle.std.specs.Prelude.{◌≡◌, ◌+◌, ◌<◌, ◌≤◌, [], 
 ghost use Rattle.std.specs.List.{flat_map};
 ghost use Rattle.wt_grid.specs.Traces.{piece_tiles};
 ghost use Rattle.wt_morphism.specs.Images as images;
-ghost use Rattle.wt_expand.specs.Levels.{rows_below};
-ghost use Rattle.wt_expand.specs.Rows.{bit};
-ghost use Rattle.wt_expand.specs.Walks.{has_two, laid};
-ghost use Rattle.wt_expand.specs.Blocks.{piece_under, standing_of};
-ghost use Rattle.wt_expand.specs.Ladders.{level_of};
-ghost use Rattle.wt_expand.specs.PieceTables.{Holds};
+ghost use Rattle.wt_expand.specs.Blocks.{digit_of};
+ghost use Rattle.wt_expand.specs.Counters.{level_of, piece_at_level, has_two_at, row_laid_at, digit_laid_at};
+ghost use Rattle.wt_expand.specs.PieceTables.{HasPieces};
 ghost use Rattle.wt_expand.specs.Blocks as blocks;
 
-use crate::ladder::{Ladder, LevelRef};
-use crate::rungs::is_along;
+use crate::counter::{Counter, LevelRef, lies_in_rows};
+use crate::limits::MAX_SIDE;
 use crate::table::{PieceTable, table_of};
 use wt_morphism::Image;
 
@@ -50,9 +47,9 @@ fn put_image(row: &mut [u16], len: usize, image: Image) -> usize
 
 /// Lays the pieces of a row's tiles one after another, as far as there is room, and tells how many tiles
 /// there are then.
-fn lay_along(ladder: &Ladder<'_>, level: LevelRef<'_>, above: &[u16], row: &mut [u16]) -> usize
+fn lay_along(counter: &Counter<'_>, level: LevelRef<'_>, above: &[u16], row: &mut [u16]) -> usize
     ensures laid { take result row.new
-        ≡ take (length row.old) (flat_map (λ t. piece_tiles (piece_under ladder.now.renaming.now (level_of level.entry) t)) above.now) }
+        ≡ take (length row.old) (flat_map (λ t. piece_tiles (piece_at_level counter.now level.entry t)) above.now) }
     ensures within { result ≤ length row.new }
     ensures room { length row.new ≡ length row.old }
 {
@@ -61,7 +58,7 @@ fn lay_along(ladder: &Ladder<'_>, level: LevelRef<'_>, above: &[u16], row: &mut 
         if len == row.len() {
             return len;
         }
-        len = put_image(row, len, ladder.piece(level, *tile));
+        len = put_image(row, len, counter.piece(level, *tile));
     }
     len
 }
@@ -76,51 +73,52 @@ pub fn tile_of(upper: bool, image: Image) -> u16
     }
 }
 
-/// Lays the lower or the upper tiles of a row's pieces, as far as there is room, and tells how many there are.
+/// Lays the lower or the upper tiles of a row's pieces, as far as there is room, and tells how many there
+/// are.
 fn lay_across(
-    ladder: &Ladder<'_>,
+    counter: &Counter<'_>,
     level: LevelRef<'_>,
     above: &[u16],
     upper: bool,
     row: &mut [u16],
 ) -> usize
     ensures laid { take result row.new
-        ≡ take (length row.old) (map (λ t. blocks.tile_of upper (piece_under ladder.now.renaming.now (level_of level.entry) t)) above.now) }
+        ≡ take (length row.old) (map (λ t. blocks.tile_of upper (piece_at_level counter.now level.entry t)) above.now) }
     ensures within { result ≤ length row.new }
     ensures room { length row.new ≡ length row.old }
 {
     let count = above.len().min(row.len());
     for x in 0..count {
-        row[x] = tile_of(upper, ladder.piece(level, above[x]));
+        row[x] = tile_of(upper, counter.piece(level, above[x]));
     }
     count
 }
 
 /// Lays the lower or the upper row that a short row stands for.
 fn lay_short(
-    ladder: &Ladder<'_>,
+    counter: &Counter<'_>,
     level: LevelRef<'_>,
     above: &[u16],
     upper: bool,
     row: &mut [u16],
 ) -> usize
-    requires inside { upper ≡ true → has_two ladder.now.renaming.now (level_of level) above.now ≡ true }
+    requires inside { upper ≡ true → has_two_at counter.now level above.now ≡ true }
     ensures laid { take result row.new
-        ≡ take (length row.old) (slice_index_or (rows_below ladder.now.renaming.now (level_of level.entry) above.now) (bit upper) []) }
+        ≡ take (length row.old) (row_laid_at counter.now level.entry above.now upper) }
     ensures within { result ≤ length row.new }
     ensures room { length row.new ≡ length row.old }
 {
-    if is_along(level.link) {
-        lay_along(ladder, level, above, row)
+    if lies_in_rows(level.link) {
+        lay_along(counter, level, above, row)
     } else {
-        lay_across(ladder, level, above, upper, row)
+        lay_across(counter, level, above, upper, row)
     }
 }
 
-/// Writes what a tile stands for behind the first tiles, while there is room, and tells how many there are then.
-/// Where there is room for two, both ends are written, whether both count or not.
+/// Writes what a tile stands for behind the first tiles, while there is room, and tells how many there are
+/// then. Where there is room for two, both ends are written, whether both count or not.
 fn put_piece(
-    ladder: &Ladder<'_>,
+    counter: &Counter<'_>,
     level: LevelRef<'_>,
     table: &PieceTable,
     row: &mut [u16],
@@ -128,9 +126,9 @@ fn put_piece(
     tile: u16,
 ) -> usize
     requires within { len ≤ length row.old }
-    requires table { Holds table.now ladder.now.renaming.now (level_of level) }
+    requires table { HasPieces table.now counter.now.renaming.now (level_of level) }
     ensures put { take result row.new
-        ≡ take (length row.old) (take len row.old ++ piece_tiles (piece_under ladder.now.renaming.now (level_of level.entry) tile)) }
+        ≡ take (length row.old) (take len row.old ++ piece_tiles (piece_at_level counter.now level.entry tile)) }
     ensures within { result ≤ length row.new }
     ensures room { length row.new ≡ length row.old }
 {
@@ -140,20 +138,20 @@ fn put_piece(
         row[len + 1] = table.lasts[t];
         return len + usize::from(table.lens[t]);
     }
-    put_image(row, len, ladder.piece(level, tile))
+    put_image(row, len, counter.piece(level, tile))
 }
 
 /// Lays the pieces of a long row's tiles one after another, as `lay_along` does.
 fn lay_long_along(
-    ladder: &Ladder<'_>,
+    counter: &Counter<'_>,
     level: LevelRef<'_>,
     table: &PieceTable,
     above: &[u16],
     row: &mut [u16],
 ) -> usize
-    requires { Holds table.now ladder.now.renaming.now (level_of level) }
+    requires { HasPieces table.now counter.now.renaming.now (level_of level) }
     ensures laid { take result row.new
-        ≡ take (length row.old) (flat_map (λ t. piece_tiles (piece_under ladder.now.renaming.now (level_of level.entry) t)) above.now) }
+        ≡ take (length row.old) (flat_map (λ t. piece_tiles (piece_at_level counter.now level.entry t)) above.now) }
     ensures within { result ≤ length row.new }
     ensures room { length row.new ≡ length row.old }
 {
@@ -162,25 +160,25 @@ fn lay_long_along(
         if len == row.len() {
             return len;
         }
-        len = put_piece(ladder, level, table, row, len, *tile);
+        len = put_piece(counter, level, table, row, len, *tile);
     }
     len
 }
 
 /// The lower or the upper tile of what a tile stands for.
 fn end_of(
-    ladder: &Ladder<'_>,
+    counter: &Counter<'_>,
     level: LevelRef<'_>,
     table: &PieceTable,
     upper: bool,
     tile: u16,
 ) -> u16
-    requires { Holds table.now ladder.now.renaming.now (level_of level) }
-    ensures { result ≡ blocks.tile_of upper (piece_under ladder.now.renaming.now (level_of level.entry) tile) }
+    requires { HasPieces table.now counter.now.renaming.now (level_of level) }
+    ensures { result ≡ blocks.tile_of upper (piece_at_level counter.now level.entry tile) }
 {
     let t = usize::from(tile);
     if t >= table.count {
-        return tile_of(upper, ladder.piece(level, tile));
+        return tile_of(upper, counter.piece(level, tile));
     }
     if upper {
         table.lasts[t]
@@ -191,73 +189,73 @@ fn end_of(
 
 /// Lays the lower or the upper tiles of a long row's pieces, as `lay_across` does.
 fn lay_long_across(
-    ladder: &Ladder<'_>,
+    counter: &Counter<'_>,
     level: LevelRef<'_>,
     table: &PieceTable,
     above: &[u16],
     upper: bool,
     row: &mut [u16],
 ) -> usize
-    requires { Holds table.now ladder.now.renaming.now (level_of level) }
+    requires { HasPieces table.now counter.now.renaming.now (level_of level) }
     ensures laid { take result row.new
-        ≡ take (length row.old) (map (λ t. blocks.tile_of upper (piece_under ladder.now.renaming.now (level_of level.entry) t)) above.now) }
+        ≡ take (length row.old) (map (λ t. blocks.tile_of upper (piece_at_level counter.now level.entry t)) above.now) }
     ensures within { result ≤ length row.new }
     ensures room { length row.new ≡ length row.old }
 {
     let count = above.len().min(row.len());
     for x in 0..count {
-        row[x] = end_of(ladder, level, table, upper, above[x]);
+        row[x] = end_of(counter, level, table, upper, above[x]);
     }
     count
 }
 
 /// Lays the lower or the upper row that a long row stands for.
 fn lay_long(
-    ladder: &Ladder<'_>,
+    counter: &Counter<'_>,
     level: LevelRef<'_>,
     above: &[u16],
     upper: bool,
     row: &mut [u16],
 ) -> usize
-    requires inside { upper ≡ true → has_two ladder.now.renaming.now (level_of level) above.now ≡ true }
+    requires inside { upper ≡ true → has_two_at counter.now level above.now ≡ true }
     ensures laid { take result row.new
-        ≡ take (length row.old) (slice_index_or (rows_below ladder.now.renaming.now (level_of level.entry) above.now) (bit upper) []) }
+        ≡ take (length row.old) (row_laid_at counter.now level.entry above.now upper) }
     ensures within { result ≤ length row.new }
     ensures room { length row.new ≡ length row.old }
 {
-    let table = table_of(ladder, level);
-    if is_along(level.link) {
-        lay_long_along(ladder, level, &table, above, row)
+    let table = table_of(counter, level);
+    if lies_in_rows(level.link) {
+        lay_long_along(counter, level, &table, above, row)
     } else {
-        lay_long_across(ladder, level, &table, above, upper, row)
+        lay_long_across(counter, level, &table, above, upper, row)
     }
 }
 
 /// Lays the lower or the upper row that a row stands for.
 fn lay_row(
-    ladder: &Ladder<'_>,
+    counter: &Counter<'_>,
     level: LevelRef<'_>,
     above: &[u16],
     upper: bool,
     row: &mut [u16],
 ) -> usize
-    requires inside { upper ≡ true → has_two ladder.now.renaming.now (level_of level) above.now ≡ true }
+    requires inside { upper ≡ true → has_two_at counter.now level above.now ≡ true }
     ensures laid { take result row.new
-        ≡ take (length row.old) (slice_index_or (rows_below ladder.now.renaming.now (level_of level.entry) above.now) (bit upper) []) }
+        ≡ take (length row.old) (row_laid_at counter.now level.entry above.now upper) }
     ensures within { result ≤ length row.new }
     ensures room { length row.new ≡ length row.old }
 {
     if above.len() < LONG {
-        lay_short(ladder, level, above, upper, row)
+        lay_short(counter, level, above, upper, row)
     } else {
-        lay_long(ladder, level, above, upper, row)
+        lay_long(counter, level, above, upper, row)
     }
 }
 
 /// The row that a block holds.
 pub fn row_of(block: &[u16]) -> &[u16]
     requires { 2 ≤ length block.now }
-    ensures { result.now ≡ (standing_of block.now).row }
+    ensures { result.now ≡ (digit_of block.now).row }
 {
     let tiles = &block[2..];
     let len = usize::from(block[1]).min(tiles.len());
@@ -267,14 +265,14 @@ pub fn row_of(block: &[u16]) -> &[u16]
 /// Whether a block holds the upper one of two rows.
 pub fn is_upper(block: &[u16]) -> bool
     requires { 2 ≤ length block.now }
-    ensures { result ≡ (standing_of block.now).upper }
+    ensures { result ≡ (digit_of block.now).is_upper }
 {
     block[0] == 1
 }
 
 /// Lays a block's row from the row above.
 fn lay_block(
-    ladder: &Ladder<'_>,
+    counter: &Counter<'_>,
     level: LevelRef<'_>,
     w: usize,
     above: &[u16],
@@ -282,30 +280,36 @@ fn lay_block(
     block: &mut [u16],
 )
     requires wide { w + 2 ≤ length block.old }
-    requires thin { w ≤ 4096 }
-    requires inside { upper ≡ true → has_two ladder.now.renaming.now (level_of level) above.now ≡ true }
-    ensures laid { standing_of block.new ≡ laid w ladder.now.renaming.now (level_of level.entry) above.now upper }
+    requires thin { w ≤ MAX_SIDE }
+    requires inside { upper ≡ true → has_two_at counter.now level above.now ≡ true }
+    ensures laid { digit_of block.new ≡ digit_laid_at w counter.now level.entry above.now upper }
     ensures within { slice_index block.new 1 + 2 ≤ length block.new }
     ensures room { length block.new ≡ length block.old }
 {
     let (head, tiles) = block.split_at_mut(2);
-    let len = lay_row(ladder, level, above, upper, &mut tiles[..w]);
+    let len = lay_row(counter, level, above, upper, &mut tiles[..w]);
     head[0] = u16::from(upper);
     head[1] = len as u16;
 }
 
 /// Lays the first block's row from that of the next block.
-pub fn lay_first(ladder: &Ladder<'_>, level: LevelRef<'_>, w: usize, upper: bool, space: &mut [u16])
-    requires room { ladder.now.block + 2 ≤ length space.old }
-    requires wide { w + 2 ≤ ladder.now.block }
-    requires thin { w ≤ 4096 }
+pub fn lay_first(
+    counter: &Counter<'_>,
+    level: LevelRef<'_>,
+    w: usize,
+    upper: bool,
+    space: &mut [u16],
+)
+    requires room { counter.now.block + 2 ≤ length space.old }
+    requires wide { w + 2 ≤ counter.now.block }
+    requires thin { w ≤ MAX_SIDE }
     requires inside { upper ≡ true
-        → has_two ladder.now.renaming.now (level_of level) (standing_of (drop ladder.now.block space.old)).row ≡ true }
-    ensures laid { standing_of space.new
-        ≡ laid w ladder.now.renaming.now (level_of level.entry) (standing_of (drop ladder.now.block space.old)).row upper }
-    ensures above { drop ladder.now.block space.new ≡ drop ladder.now.block space.old }
+        → has_two_at counter.now level (digit_of (drop counter.now.block space.old)).row ≡ true }
+    ensures laid { digit_of space.new
+        ≡ digit_laid_at w counter.now level.entry (digit_of (drop counter.now.block space.old)).row upper }
+    ensures above { drop counter.now.block space.new ≡ drop counter.now.block space.old }
     ensures size { length space.new ≡ length space.old }
 {
-    let (block, above) = space.split_at_mut(ladder.block);
-    lay_block(ladder, level, w, row_of(above), upper, block);
+    let (block, above) = space.split_at_mut(counter.block);
+    lay_block(counter, level, w, row_of(above), upper, block);
 }

@@ -2,20 +2,24 @@
 ghost use Rattle.std.specs.Prelude.{◌≡◌, ◌≤◌, length};
 ghost use Rattle.wt_grid.specs.Traces.{piece_tiles};
 ghost use Rattle.wt_morphism.specs.Images as spec;
-ghost use Rattle.wt_expand.specs.Ladders.{level_of};
-ghost use Rattle.wt_expand.specs.PieceTables.{Holds};
+ghost use Rattle.wt_expand.specs.Counters.{level_of};
+ghost use Rattle.wt_expand.specs.PieceTables.{HasPieces};
 
-use crate::ladder::{Ladder, LevelRef};
+use crate::counter::{Counter, LevelRef};
 use crate::laid::tile_of;
 use wt_morphism::Image;
 use wt_step::RawLink;
 
-/// For the first tiles of a set, so many, the two ends of what they stand for and how many tiles that is.
+/// What the first tiles of a set stand for.
 #[derive(Drop)]
 pub struct PieceTable {
+    /// The first tile of what a tile stands for.
     pub firsts: [u16; 256],
+    /// The last tile of it.
     pub lasts: [u16; 256],
+    /// How many tiles it is: 1 or 2.
     pub lens: [u8; 256],
+    /// How many tiles have entries.
     pub count: usize,
 }
 
@@ -38,15 +42,15 @@ fn len_of(image: Image) -> u8
 }
 
 /// The table of a level.
-pub fn table_of(ladder: &Ladder<'_>, level: LevelRef<'_>) -> PieceTable
-    ensures { Holds result ladder.now.renaming.now (level_of level.entry) }
+pub fn table_of(counter: &Counter<'_>, level: LevelRef<'_>) -> PieceTable
+    ensures { HasPieces result counter.now.renaming.now (level_of level.entry) }
 {
     let mut firsts = [0u16; 256];
     let mut lasts = [0u16; 256];
     let mut lens = [0u8; 256];
     let count = image_count(level.link).min(256);
     for t in 0..count {
-        let image = ladder.piece(level, t as u16);
+        let image = counter.piece(level, t as u16);
         firsts[t] = tile_of(false, image);
         lasts[t] = tile_of(true, image);
         lens[t] = len_of(image);

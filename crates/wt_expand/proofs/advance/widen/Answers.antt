@@ -1,0 +1,63 @@
+use Rattle.std.proofs.Common.{arith, ◌≡◌, ◌<◌, ◌+◌, ◌-◌, ◌*◌, ℕ, List, length, refl, ◌∙◌, ap}
+use Rattle.std.proofs.lemmas.List.{length-drop}
+use Rattle.wt_expand.specs.Blocks.{digit_of}
+use Rattle.wt_expand.specs.Counters.{counter_levels}
+use Rattle.wt_expand.proofs.Places.{two_blocks, some_at}
+use Rattle.wt_expand.proofs.Widened.{same_flag, take_lower, wide_top, two_wide, wide_more}
+use Rattle.wt_expand.proofs.advance.widen.Goals as goal
+
+pub loop-i-init : goal.loop-i-init
+loop-i-init c =
+    let counter = c.args.counter.now in
+    record {
+      inside = omega (arith, c.count-i.ensures.value);
+      wide = wide_top 1 c.args.w (omega arith) c.requires.some counter.renaming.now counter.block (counter_levels counter) c.count-i.result c.args.space.now c.count-i.ensures.value c.requires.fits;
+      below = refl;
+      size = refl;
+    }
+
+pub is_upper-upper-requires : goal.is_upper-upper-requires
+is_upper-upper-requires c =
+    let counter = c.args.counter.now in
+    let k = c.loop-i.i - 1 in
+    let n = length (counter_levels counter) in
+    let in_loop = c.loop-i.invariant in
+    let lt : k < n = omega (arith, c.loop-i-test.true, in_loop.inside) in
+    let two = two_blocks n k counter.block (length c.args.space.now) lt c.requires.room in
+    let long : length c.rest_at.result.now ≡ length c.loop-i.space - k * counter.block = ap length c.rest_at.ensures ∙ length-drop (k * counter.block) c.loop-i.space in
+    omega (arith, two, long, in_loop.size, c.requires.wide)
+
+pub lay_at-requires-clause-inside : goal.lay_at-requires-clause-inside
+lay_at-requires-clause-inside c = λ up level at.
+    let counter = c.args.counter.now in
+    let b = counter.block in
+    let i = c.loop-i.i in
+    let k = i - 1 in
+    let in_loop = c.loop-i.invariant in
+    let next : k + 1 ≡ i = omega (arith, c.loop-i-test.true) in
+    let lt : k < length (counter_levels counter) = omega (arith, c.loop-i-test.true, in_loop.inside) in
+    let places = ap (λ (n : ℕ). n * b) next in
+    let lower : k * b < i * b = omega (arith, places, c.requires.wide) in
+    let flag = c.is_upper-upper.ensures ∙ (ap (λ (xs : List ℕ). (digit_of xs).is_upper) c.rest_at.ensures ∙ same_flag (k * b) (i * b) c.loop-i.space c.args.space.now lower in_loop.below) in
+    two_wide 1 c.args.w (omega arith) c.requires.some counter.renaming.now b (counter_levels counter) k i level c.args.space.now c.loop-i.space c.is_upper-upper.result next at lt c.requires.fits in_loop.wide flag up
+
+pub loop-i-preserved : goal.loop-i-preserved
+loop-i-preserved c =
+    let counter = c.args.counter.now in
+    let b = counter.block in
+    let i = c.loop-i.i in
+    let k = i - 1 in
+    let in_loop = c.loop-i.invariant in
+    let next : k + 1 ≡ i = omega (arith, c.loop-i-test.true) in
+    let lt : k < length (counter_levels counter) = omega (arith, c.loop-i-test.true, in_loop.inside) in
+    let places = ap (λ (n : ℕ). n * b) next in
+    let lower : k * b < i * b = omega (arith, places, c.requires.wide) in
+    let flag = c.is_upper-upper.ensures ∙ (ap (λ (xs : List ℕ). (digit_of xs).is_upper) c.rest_at.ensures ∙ same_flag (k * b) (i * b) c.loop-i.space c.args.space.now lower in_loop.below) in
+    let l = some_at (counter_levels counter) k lt in
+    record {
+      inside = omega (arith, lt);
+      wide = wide_more 1 c.args.w (omega arith) c.requires.some counter.renaming.now b (counter_levels counter) k i l.0 c.args.space.now c.loop-i.space c.lay_at.new.space
+          c.is_upper-upper.result next l.1 lt c.requires.fits in_loop.wide flag (c.lay_at.ensures.laid l.0 l.1);
+      below = c.lay_at.ensures.below ∙ take_lower (k * b) (i * b) c.loop-i.space c.args.space.now (omega (arith, lower)) in_loop.below;
+      size = c.lay_at.ensures.size ∙ in_loop.size;
+    }
