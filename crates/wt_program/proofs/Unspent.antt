@@ -1,0 +1,104 @@
+-- No reply tells that a budget was spent.
+use Rattle.std.proofs.Common.{◌≡◌, ◌≢◌, ◌^◌, ℕ, List, length, slice_get, sym, subst}
+use Rattle.std.specs.Prelude.{ℤ, Option, None, Some, Result, Ok, Err, codes, nat_lt, Bool, true, false, if◌then◌else◌}
+use Rattle.wt_line.specs.declared.faults.What.{What}
+use Rattle.wt_text.specs.Words.{value_from}
+use Rattle.wt_text.specs.Lines.{bytes_of}
+use Rattle.wt_text.specs.Readers.{TextFault, syntax_at, limit_at}
+use Rattle.wt_grid.specs.Grid.{Grid}
+use Rattle.wt_pattern.specs.PatternRows.{pattern_lines}
+use Rattle.wt_pattern.specs.Validity.{first_stranger}
+use Rattle.wt_step.specs.declared.raw.RawLink.{RawLink}
+use Rattle.wt_step.specs.declared.coarse.DesubFault.{DesubFault}
+use Rattle.wt_step.specs.declared.coarse.DesubFault.TheVariants.{NotValid, TooSmall, OutOfMemory}
+use Rattle.wt_step.specs.Links.{fine_of}
+use Rattle.wt_step.specs.Coarse.{desub_fault}
+use Rattle.wt_chain.specs.declared.raw.RawChain.{RawChain}
+use Rattle.wt_chain.specs.declared.raw.End.{End}
+use Rattle.wt_chain.specs.declared.raw.End.TheVariants.{Open, Loop}
+use Rattle.wt_chain.specs.declared.raw.Refusal.{Refusal}
+use Rattle.wt_chain.specs.Faults.{chain_fault}
+use Rattle.wt_scale.specs.Pick.{pick}
+use Rattle.wt_scale.specs.Vectors.{reach, size_result}
+use Rattle.wt_scale.specs.declared.size.SizeFault.{SizeFault}
+use Rattle.wt_scale.specs.declared.size.SizeFault.TheVariants as why
+use Rattle.wt_program.specs.declared.reply.Reply.{Reply}
+use Rattle.wt_program.specs.declared.reply.Reply.TheVariants.{Answered, Limit}
+use Rattle.wt_program.specs.Numbers.{signed_value}
+use Rattle.wt_program.specs.Commands.{Command, check, desub, bound, expand}
+use Rattle.wt_program.specs.Replies.{said}
+use Rattle.wt_program.specs.Faults.{fault_reply}
+use Rattle.wt_program.specs.Checks.{chain_of, judged_by, accepted_read, reply_or, report_reply}
+use Rattle.wt_program.specs.Bounds.{size_reply, vector_reply, bounded}
+use Rattle.wt_program.specs.Expands.{pick_reply, expanded}
+use Rattle.wt_program.specs.Desubs.{chain_and_pattern, IsTakenReply, IsTilesReply, IsStepReply, IsChainReply, IsReadReply}
+use Rattle.wt_program.specs.Answers.{IsReply}
+
+unspent_fault : (fault : TextFault What) → (said (fault_reply fault)).status ≢ 6
+unspent_fault (syntax_at n) e = cc
+unspent_fault (limit_at what n) e = cc
+
+unspent_judged : (answer : RawChain → Reply) → ((c : RawChain) → (said (answer c)).status ≢ 6) → (c : RawChain) (f : Option Refusal) → (said (reply_or answer (judged_by c f))).status ≢ 6
+unspent_judged answer never c None = never c
+unspent_judged answer never c (Some refusal) = λ e. cc
+
+unspent_read : (answer : RawChain → Reply) → ((c : RawChain) → (said (answer c)).status ≢ 6) → (r : Result RawChain (TextFault What)) → (said (reply_or answer (accepted_read r))).status ≢ 6
+unspent_read answer never (Ok c) = unspent_judged answer never c (chain_fault c)
+unspent_read answer never (Err fault) = unspent_fault fault
+
+unspent_size : (size : Result ℕ SizeFault) → (said (size_reply size)).status ≢ 6
+unspent_size (Ok n) e = cc
+unspent_size (Err why.OpenChain) e = cc
+unspent_size (Err why.ZeroVector) e = cc
+unspent_size (Err why.TooLarge) e = cc
+
+unspent_bound : (x y : ℤ) (c : RawChain) (end : End) → (said (vector_reply c end x y)).status ≢ 6
+unspent_bound x y c Open = λ e. cc
+unspent_bound x y c (Loop start renaming k) = by (nat_lt (reach x y) (2 ^ 63))
+  where
+    by : (b : Bool) → (said (if b then size_reply (size_result c x y) else Limit (codes "limit number\n"))).status ≢ 6
+    by true = unspent_size (size_result c x y)
+    by false = λ e. cc
+
+unspent_pick : (w h : ℕ) (c : RawChain) (end : End) → (said (pick_reply c end w h)).status ≢ 6
+unspent_pick w h c Open = λ e. cc
+unspent_pick w h c (Loop start renaming k) = by (nat_lt 4096 w) (nat_lt 4096 h)
+  where
+    made : Reply
+    made = Answered (bytes_of (pattern_lines (pick c.steps start renaming k w h)))
+
+    by : (a b : Bool) → (said (if a then Limit (codes "limit width\n") else if b then Limit (codes "limit height\n") else made)).status ≢ 6
+    by true b = λ e. cc
+    by false true = λ e. cc
+    by false false = λ e. cc
+
+said_as : (reply other : Reply) → reply ≡ other → (said other).status ≢ 6 → (said reply).status ≢ 6
+said_as reply other same never = subst (λ (r : Reply). (said r).status ≢ 6) (sym same) never
+
+unspent_taken : (link : RawLink) (p : Grid) (f : Option DesubFault) (reply : Reply) → IsTakenReply link p f reply → (said reply).status ≢ 6
+unspent_taken link p (Some (NotValid fault)) reply is = said_as reply _ is (λ e. cc)
+unspent_taken link p (Some TooSmall) reply is = said_as reply _ is (λ e. cc)
+unspent_taken link p (Some OutOfMemory) reply is = absurd is
+unspent_taken link p None reply is = said_as reply _ is.3 (λ e. cc)
+
+unspent_tiles : (link : RawLink) (p : Grid) (f : Option (ℕ × ℕ)) (reply : Reply) → IsTilesReply link p f reply → (said reply).status ≢ 6
+unspent_tiles link p (Some place) reply is = said_as reply _ is (λ e. cc)
+unspent_tiles link p None reply is = unspent_taken link p (desub_fault link p) reply is
+
+unspent_step : (step : List ℕ) (p : Grid) (o : Option RawLink) (reply : Reply) → IsStepReply step p o reply → (said reply).status ≢ 6
+unspent_step step p None reply is = said_as reply _ is (λ e. cc)
+unspent_step step p (Some link) reply is = unspent_tiles link p (first_stranger (length (fine_of link).tiles) p) reply is
+
+unspent_chain : (step : List ℕ) (p : Grid) (c : RawChain) (f : Option Refusal) (reply : Reply) → IsChainReply step p (judged_by c f) reply → (said reply).status ≢ 6
+unspent_chain step p c None reply is = unspent_step step p (slice_get c.steps (value_from 0 step)) reply is
+unspent_chain step p c (Some refusal) reply is = said_as reply _ is (λ e. cc)
+
+unspent_both : (step : List ℕ) (r : Result (RawChain × Grid) (TextFault What)) (reply : Reply) → IsReadReply step r reply → (said reply).status ≢ 6
+unspent_both step (Ok x) reply is = unspent_chain step x.1 x.0 (chain_fault x.0) reply is
+unspent_both step (Err fault) reply is = said_as reply _ is (unspent_fault fault)
+
+pub unspent : (c : Command) (bytes : List ℕ) (reply : Reply) → IsReply c bytes reply → (said reply).status ≢ 6
+unspent check bytes reply is = said_as reply _ is (unspent_read report_reply (λ c e. cc) (chain_of bytes))
+unspent (desub step) bytes reply is = unspent_both step (chain_and_pattern bytes) reply is
+unspent (bound x y) bytes reply is = said_as reply _ is (unspent_read (bounded (signed_value x) (signed_value y)) (λ c. unspent_bound (signed_value x) (signed_value y) c c.end) (chain_of bytes))
+unspent (expand w h) bytes reply is = said_as reply _ is (unspent_read (expanded (value_from 0 w) (value_from 0 h)) (λ c. unspent_pick (value_from 0 w) (value_from 0 h) c c.end) (chain_of bytes))
