@@ -33,6 +33,7 @@ piece_of f [] d t = refl
 piece_of f (x ∷ xs) d zero = refl
 piece_of f (x ∷ xs) d (suc t) = piece_of f xs d t
 
+-- what a coarse tile stands for, found among all pieces or by itself
 pub piece_is : (link : RawLink) (t : ℕ) → piece_at (pieces_of link) t ≡ piece (image_of link t)
 piece_is (Marker s) t = piece_of piece s.images (Single 0) t
 piece_is (Restrict s) t = piece_of Single s.kept 0 t
