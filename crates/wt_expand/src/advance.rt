@@ -13,7 +13,7 @@ ghost use Rattle.wt_expand.specs.Spaces.{HasRoom, row_count, row_in, HasDigits};
 
 use crate::counter::{Counter, LevelRef};
 use crate::laid::{is_upper, lay_first, row_of};
-use crate::limits::MAX_SIDE;
+use wt_grid::MAX_SIDE;
 
 /// In which direction the counter goes.
 #[derive(Clone, Copy)]

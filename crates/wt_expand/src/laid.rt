@@ -9,8 +9,8 @@ ghost use Rattle.wt_expand.specs.PieceTables.{HasPieces};
 ghost use Rattle.wt_expand.specs.Blocks as blocks;
 
 use crate::counter::{Counter, LevelRef, lies_in_rows};
-use crate::limits::MAX_SIDE;
 use crate::table::{PieceTable, table_of};
+use wt_grid::MAX_SIDE;
 use wt_morphism::Image;
 
 /// From how many tiles on a row is long, so that a table of its level pays.

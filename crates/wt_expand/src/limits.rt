@@ -1,8 +1,5 @@
 // The limits of picks, and of what is counted for them.
 
-/// The longest side of a pick.
-pub const MAX_SIDE: usize = 4096;
-
 /// The most steps of a chain.
 pub const MAX_STEPS: usize = 32;
 
