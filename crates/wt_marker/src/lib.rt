@@ -12,6 +12,8 @@ mod laws;
 mod listing;
 mod marks;
 mod pushes;
+#[cfg(test)]
+mod tests;
 
 pub use classes::marker_classes;
 pub use derive::derive_step;
