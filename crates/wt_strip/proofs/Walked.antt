@@ -1,0 +1,107 @@
+-- Rows that are walked column by column.
+use Rattle.std.proofs.Common.{arith, ◌≡◌, ℕ, suc, ◌+◌, ◌<◌, ◌≤◌, List, [], length, take, set, slice_index, slice_index_or, Bool, true, false, not, refl, sym, ap, ◌∙◌, subst, inl, inr}
+use Rattle.std.proofs.lemmas.Bool.{cases_lt, cases_eq}
+use Rattle.std.proofs.lemmas.Grind.{same_number_lists}
+use Rattle.std.proofs.lemmas.List.{get_or-take, get_or-set_same, get_or-set_other, length-take-le}
+use Rattle.wt_tile.specs.declared.tile.Tile.{Tile}
+use Rattle.wt_grid.specs.declared.axis.Axis.TheVariants.{One, Two}
+use Rattle.wt_tile.specs.Matching.{matches}
+use Rattle.wt_strip.specs.Layers.{IsRow, IsUnder}
+use Rattle.wt_strip.specs.Walks.{is_allowed, IsWay, AreAlike}
+
+pub was_true : (b : Bool) → not b ≡ false → b ≡ true
+was_true true e = refl
+was_true false e = absurd cc
+
+-- a row that agrees with the whole row is that row
+pub whole_row : (w : ℕ) (q row : List ℕ) → length q ≡ w → w ≤ length row → AreAlike w q row → take w row ≡ q
+whole_row w q row long le agree =
+    let l = length-take-le w row le in
+    same_number_lists (take w row) q (omega (arith, l, long)) (λ k lt. get_or-take w row k 0 (omega (arith, l, lt)) ∙ sym (agree k (omega (arith, l, lt))))
+
+-- one column more
+pub agree_on : (x t : ℕ) (q row start : List ℕ) → x < length row → AreAlike x row start → AreAlike x q start → slice_index q x ≡ t → AreAlike (x + 1) q (set row x t)
+agree_on x t q row start lt same agree here = λ k lk. elim (cases_lt k x) [
+  | inl l ↦ agree k l ∙ sym (same k l) ∙ sym (get_or-set_other row x k t 0 (λ e. absurd (omega (arith, e))))
+  | inr ge ↦ let e : k ≡ x = omega arith in rw e (here ∙ sym (get_or-set_same row x t 0 lt))
+]
+
+-- the first columns are kept when the next is set and what follows is walked
+pub kept : (x t : ℕ) (new row start : List ℕ) → AreAlike (x + 1) new (set row x t) → AreAlike x row start → AreAlike x new start
+kept x t new row start after same = λ k lk. after k (omega arith) ∙ get_or-set_other row x k t 0 (λ e. absurd (omega (arith, e))) ∙ same k lk
+
+-- a tile that may not come isn't that of a row that goes on
+pub barred : (ts : List Tile) (allowed : List (List Bool)) (w x t : ℕ) (q row start : List ℕ) → x < w → AreAlike x row start → AreAlike x q start → IsWay ts allowed w q → slice_index q x ≡ t
+    → (is_allowed allowed x t ≡ true → ((k : ℕ) → x ≡ suc k → matches ts One (slice_index row k) t ≡ true) → ⊥) → ⊥
+barred ts allowed w x t q row start lt same agree way here bar =
+    bar (subst (λ (a : ℕ). is_allowed allowed x a ≡ true) here (way.stands x lt))
+    (λ k e.
+    let last : slice_index q (suc k) ≡ t = ap (slice_index q) (sym e) ∙ here in
+    let before : slice_index q k ≡ slice_index row k = agree k (omega (arith, e)) ∙ sym (same k (omega (arith, e))) in
+    ap (λ (a : ℕ). matches ts One a t) (sym before) ∙ ap (λ (b : ℕ). matches ts One (slice_index q k) b) (sym last) ∙ way.across k (omega (arith, e)))
+
+-- a row that its columns allow, cut to its width
+pub way_cut : (ts : List Tile) (allowed : List (List Bool)) (w : ℕ) (row : List ℕ) → IsWay ts allowed w row → IsWay ts allowed w (take w row)
+way_cut ts allowed w row way = record {
+  long = let l = length-take-le w row way.long in omega (arith, l);
+  tiles = λ x lx. rw (get_or-take w row x 0 lx) (way.tiles x lx);
+  across = λ x lx. rw (get_or-take w row x 0 (omega arith), get_or-take w row (suc x) 0 lx) (way.across x lx);
+  stands = λ x lx. rw (get_or-take w row x 0 lx) (way.stands x lx);
+}
+
+module _ (ts : List Tile) (allowed : List (List Bool)) (w : ℕ) where
+  -- a row that its columns allow is valid, and lies upon the row that the columns are made of
+  pub row_of_way : (q : List ℕ) → length q ≡ w → IsWay ts allowed w q → IsRow ts w q
+  row_of_way q long way = record { long = long; tiles = way.tiles; across = way.across }
+
+  pub under_of_way : (p q : List ℕ) → ((x t : ℕ) → x < w → t < length ts → is_allowed allowed x t ≡ matches ts Two (slice_index p x) t) → IsWay ts allowed w q → IsUnder ts w p q
+  under_of_way p q table way = λ x lx. sym (table x (slice_index q x) lx (way.tiles x lx)) ∙ way.stands x lx
+
+  pub way_of_row : (q : List ℕ) → ((x t : ℕ) → x < w → t < length ts → is_allowed allowed x t ≡ true) → IsRow ts w q → IsWay ts allowed w q
+  way_of_row q table row = record {
+    long = let l = row.long in omega (arith, l);
+    tiles = row.tiles;
+    across = row.across;
+    stands = λ x lx. table x (slice_index q x) lx (row.tiles x lx);
+  }
+
+  pub way_upon : (p q : List ℕ) → ((x t : ℕ) → x < w → t < length ts → is_allowed allowed x t ≡ matches ts Two (slice_index p x) t) → IsRow ts w q → IsUnder ts w p q → IsWay ts allowed w q
+  way_upon p q table row under = record {
+    long = let l = row.long in omega (arith, l);
+    tiles = row.tiles;
+    across = row.across;
+    stands = λ x lx. table x (slice_index q x) lx (row.tiles x lx) ∙ under x lx;
+  }
+
+-- columns that allow fewer tiles
+pub way_of_fewer : (ts : List Tile) (less more : List (List Bool)) (w : ℕ) (q : List ℕ) → ((x t : ℕ) → is_allowed less x t ≡ true → is_allowed more x t ≡ true) → IsWay ts less w q → IsWay ts more w q
+way_of_fewer ts less more w q h way = record {
+  long = way.long;
+  tiles = way.tiles;
+  across = way.across;
+  stands = λ x lx. h x (slice_index q x) (way.stands x lx);
+}
+
+-- one column less that a row stands in
+pub narrowed_way : (ts : List Tile) (allowed : List (List Bool)) (column : List Bool) (w x : ℕ) (q : List ℕ) → suc x < w → x < length allowed
+    → ((t u : ℕ) → t < length ts → u < length ts → is_allowed allowed x t ≡ true → is_allowed allowed (suc x) u ≡ true → matches ts One t u ≡ true → slice_index_or column t false ≡ true)
+    → IsWay ts allowed w q → IsWay ts (set allowed x column) w q
+narrowed_way ts allowed column w x q lt inside keeps way = record {
+  long = way.long;
+  tiles = way.tiles;
+  across = way.across;
+  stands = λ k lk. elim (cases_eq k x) [
+    | inl e ↦ rw e (ap (λ (l : List Bool). slice_index_or l (slice_index q x) false) (get_or-set_same allowed x column [] inside)
+        ∙ keeps (slice_index q x) (slice_index q (suc x)) (way.tiles x (omega arith)) (way.tiles (suc x) lt) (way.stands x (omega arith)) (way.stands (suc x) lt) (way.across x lt))
+    | inr ne ↦ ap (λ (l : List Bool). slice_index_or l (slice_index q k) false) (get_or-set_other allowed x k column [] ne) ∙ way.stands k lk
+  ];
+}
+
+pub narrowed_fewer : (allowed more : List (List Bool)) (column : List Bool) (x : ℕ) → x < length allowed → ((t : ℕ) → slice_index_or column t false ≡ true → is_allowed allowed x t ≡ true)
+    → ((k t : ℕ) → is_allowed allowed k t ≡ true → is_allowed more k t ≡ true) → (k t : ℕ) → is_allowed (set allowed x column) k t ≡ true → is_allowed more k t ≡ true
+narrowed_fewer allowed more column x inside keeps h k t e = elim (cases_eq k x) [
+  | inl same ↦
+      let here : is_allowed (set allowed x column) x t ≡ true = subst (λ (j : ℕ). is_allowed (set allowed x column) j t ≡ true) same e in
+      subst (λ (j : ℕ). is_allowed more j t ≡ true) (sym same) (h x t (keeps t (sym (ap (λ (l : List Bool). slice_index_or l t false) (get_or-set_same allowed x column [] inside)) ∙ here)))
+  | inr ne ↦ h k t (sym (ap (λ (l : List Bool). slice_index_or l t false) (get_or-set_other allowed x k column [] ne)) ∙ e)
+]

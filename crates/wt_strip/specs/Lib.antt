@@ -1,0 +1,4 @@
+pub mod Layers
+pub mod Listed
+pub mod Exact
+pub mod Walks

@@ -1,0 +1,24 @@
+-- Rows that are filled column by column, with the tiles that each column allows.
+use Rattle.std.specs.Prelude.{◌≡◌, ℕ, suc, ◌<◌, ◌≤◌, List, [], length, slice_index, slice_index_or, Bool, true, false}
+use Rattle.wt_tile.specs.declared.tile.Tile.{Tile}
+use Rattle.wt_grid.specs.declared.axis.Axis.TheVariants.{One}
+use Rattle.wt_tile.specs.Matching.{matches}
+
+-- a column allows tile t
+abbrev pub column_allows : List Bool → ℕ → Bool
+column_allows column t = slice_index_or column t false
+
+-- column x allows tile t
+abbrev pub is_allowed : List (List Bool) → ℕ → ℕ → Bool
+is_allowed allowed x t = column_allows (slice_index_or allowed x []) t
+
+-- the first n cells are tiles that match from left to right, each allowed in its column
+pub record IsWay (ts : List Tile) (allowed : List (List Bool)) (n : ℕ) (q : List ℕ) : Type 0 where
+  pub long : n ≤ length q
+  pub tiles : (x : ℕ) → x < n → slice_index q x < length ts
+  pub across : (x : ℕ) → suc x < n → matches ts One (slice_index q x) (slice_index q (suc x)) ≡ true
+  pub stands : (x : ℕ) → x < n → is_allowed allowed x (slice_index q x) ≡ true
+
+-- two rows agree in the first n columns
+abbrev pub AreAlike : ℕ → List ℕ → List ℕ → Type 0
+AreAlike n p q = (x : ℕ) → x < n → slice_index p x ≡ slice_index q x

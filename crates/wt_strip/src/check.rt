@@ -1,0 +1,164 @@
+//! The check of layers.
+ghost use Rattle.std.specs.Prelude.{◌≡◌, ◌<◌, ◌≤◌, ◌+◌, ◌%◌, ℕ, suc, List, true, false, length, slice_index, IfOk, MatchOption, MatchResult};
+ghost use Rattle.wt_tile.specs.Matching.{matches};
+ghost use Rattle.std.specs.List.{list_all};
+ghost use Rattle.wt_grid.specs.Order.{is_below};
+ghost use Rattle.wt_grid.specs.Grid.{Grid};
+ghost use Rattle.wt_pattern.specs.Patterns.{IsPattern};
+ghost use Rattle.wt_strip.specs.Layers.{IsRow, IsUnder};
+ghost use Rattle.wt_strip.specs.Listed.{rows_in, row_at, IsAscending, IsListed, IsListOf, IsUpon};
+ghost use Rattle.wt_strip.specs.Exact.{IsStranger, HasMissing, IsLayerFault, IsExact, IsStripFault};
+
+use crate::limits::{MAX_COLUMNS, MAX_LAYERS};
+use crate::rows::{drop_in, row};
+use crate::shape::is_shaped;
+use crate::walk::{all_allowed, allowed_upon, misses};
+use crate::{Layers, StripFault};
+use wt_grid::MAX_TILES;
+use wt_tile::{Axis, SetRef, Tile, is_match};
+
+/// Whether a row's tiles match from left to right.
+fn is_across(tiles: &[Tile], q: &[u16]) -> bool
+    ensures valid { result ≡ true → (x : ℕ) → suc x < length q.now → matches tiles.now Axis.One (slice_index q.now x) (slice_index q.now (suc x)) ≡ true }
+    ensures fault { result ≡ false → ((x : ℕ) → suc x < length q.now → matches tiles.now Axis.One (slice_index q.now x) (slice_index q.now (suc x)) ≡ true) → ⊥ }
+{
+    for x in 1..q.len() {
+        if !is_match(tiles, Axis::One, q[x - 1], q[x]) {
+            return false;
+        }
+    }
+    true
+}
+
+/// Whether a row can lie below another of its length.
+fn is_under(tiles: &[Tile], p: &[u16], q: &[u16]) -> bool
+    requires { length p.now ≡ length q.now }
+    ensures under { result ≡ true → IsUnder tiles.now (length q.now) p.now q.now }
+    ensures fault { result ≡ false → IsUnder tiles.now (length q.now) p.now q.now → ⊥ }
+{
+    for x in 0..q.len() {
+        if !is_match(tiles, Axis::Two, p[x], q[x]) {
+            return false;
+        }
+    }
+    true
+}
+
+/// Whether a row can be laid upon one of the rows below.
+fn has_under(tiles: &[Tile], w: usize, below: &[u16], q: &[u16]) -> bool
+    requires wide { 1 ≤ w }
+    requires long { length q.now ≡ w }
+    ensures under { result ≡ true → (r : ℕ) × (r < rows_in w below.now) × IsUnder tiles.now w (row_at w below.now r) q.now }
+    ensures fault { result ≡ false → (r : ℕ) → r < rows_in w below.now → IsUnder tiles.now w (row_at w below.now r) q.now → ⊥ }
+{
+    for r in 0..below.len() / w {
+        if is_under(tiles, row(w, below, r), q) {
+            return true;
+        }
+    }
+    false
+}
+
+/// Whether a row of tiles is valid and can be laid upon the rows below; upon no layer, whether it is valid.
+fn is_upon(tiles: &[Tile], w: usize, n: usize, below: &[u16], q: &[u16]) -> bool
+    requires wide { 1 ≤ w }
+    requires long { length q.now ≡ w }
+    requires tiles { (x : ℕ) → x < w → slice_index q.now x < length tiles.now }
+    ensures upon { result ≡ true → IsUpon tiles.now w n below.now q.now }
+    ensures fault { result ≡ false → IsUpon tiles.now w n below.now q.now → ⊥ }
+{
+    if !is_across(tiles, q) {
+        return false;
+    }
+    if n == 0 {
+        return true;
+    }
+    has_under(tiles, w, below, q)
+}
+
+/// The first row that isn't valid, or can't be laid upon a row below.
+fn stranger_in(tiles: &[Tile], w: usize, n: usize, below: &[u16], cells: &[u16]) -> Option<usize>
+    requires wide { 1 ≤ w }
+    requires tiles { list_all (is_below (length tiles.now)) cells.now ≡ true }
+    ensures { MatchOption result ((r : ℕ) → r < rows_in w cells.now → IsUpon tiles.now w n below.now (row_at w cells.now r))
+        (λ r. IsStranger (IsUpon tiles.now w n below.now) w cells.now r) }
+{
+    for r in 0..cells.len() / w {
+        if !is_upon(tiles, w, n, below, row(w, cells, r)) {
+            return Some(r);
+        }
+    }
+    None
+}
+
+/// Whether a valid row upon the rows below isn't listed.
+fn has_missing(tiles: &[Tile], w: usize, n: usize, below: &[u16], cells: &[u16]) -> bool
+    requires few { length tiles.now ≤ MAX_TILES }
+    requires wide { 1 ≤ w }
+    requires narrow { w ≤ MAX_COLUMNS }
+    requires ascending { IsAscending w cells.now (rows_in w cells.now) }
+    ensures missing { result ≡ true → HasMissing (IsUpon tiles.now w n below.now) w cells.now }
+    ensures whole { result ≡ false → (q : List ℕ) → IsUpon tiles.now w n below.now q → IsListed w cells.now q }
+{
+    if n == 0 {
+        return misses(tiles, w, &all_allowed(), cells);
+    }
+    for r in 0..below.len() / w {
+        if misses(tiles, w, &allowed_upon(tiles, row(w, below, r)), cells) {
+            return true;
+        }
+    }
+    false
+}
+
+/// Whether a layer lists the valid rows upon the rows below, or its first fault.
+fn check_layer(
+    tiles: &[Tile],
+    w: usize,
+    n: usize,
+    below: &[u16],
+    cells: &[u16],
+) -> Result<(), StripFault>
+    requires few { length tiles.now ≤ MAX_TILES }
+    requires wide { 1 ≤ w }
+    requires narrow { w ≤ MAX_COLUMNS }
+    requires low { n < MAX_LAYERS }
+    requires tiles { list_all (is_below (length tiles.now)) cells.now ≡ true }
+    ensures { MatchResult result (λ u. IsListOf (IsUpon tiles.now w n below.now) w cells.now)
+        (λ f. IsLayerFault (IsUpon tiles.now w n below.now) w cells.now (n + 1) f) }
+{
+    let layer = n + 1;
+    if let Some(row) = drop_in(w, cells) {
+        return Err(StripFault::Order { layer, row });
+    }
+    if let Some(row) = stranger_in(tiles, w, n, below, cells) {
+        return Err(StripFault::Row { layer, row });
+    }
+    if has_missing(tiles, w, n, below, cells) {
+        return Err(StripFault::Missing { layer });
+    }
+    Ok(())
+}
+
+/// Whether layers are exact: from the valid rows upwards, for each layer all valid rows that can be laid upon a row of the
+/// layer below, up to the first layer that has none. No valid pattern of at least their width and of at least as many rows
+/// as they are layers exists then. Else their first fault: the shape first, then for each layer the order of its rows, a row
+/// that isn't of the layer, and a row of the layer that isn't listed. Takes no memory.
+pub fn check_strip(set: SetRef, layers: &Layers) -> Result<(), StripFault>
+    ensures fault { MatchResult result (λ u. IsExact set.entry.list.now.tiles layers.now) (λ f. IsStripFault set.entry.list.now.tiles layers.now f) }
+    ensures forbids { IfOk result (λ u. (g : Grid) → IsPattern set.entry.list.now.tiles g
+        → layers.now.width ≤ g.width → length layers.now.layers ≤ g.height → ⊥) }
+{
+    if !is_shaped(set.len(), layers) {
+        return Err(StripFault::Shape);
+    }
+    let mut below: &[u16] = &[];
+    for (n, cells) in layers.layers.as_slice().iter().enumerate() {
+        let cells = cells.as_slice();
+        if let Err(fault) = check_layer(set.tiles(), layers.width, n, below, cells) {
+            return Err(fault);
+        }
+        below = cells;
+    }
+    Ok(())
+}

@@ -1,0 +1,62 @@
+//! Rows that stand one after the other, and the search for one of them.
+ghost use Rattle.std.specs.Prelude.{◌≡◌, ◌<◌, ◌≤◌, true, false, length, MatchOption};
+ghost use Rattle.std.specs.Ordering.{nat_cmp};
+ghost use Rattle.std.specs.Cmp.Lexicographic.{slice_cmp};
+ghost use Rattle.wt_strip.specs.Listed.{rows_in, row_at, IsAscending, IsListed};
+ghost use Rattle.wt_strip.specs.Exact.{IsDrop};
+
+use std::cmp::Ordering;
+
+/// Row r of rows of width w.
+#[tactic(auto, using(crate::proofs::Cells::row_end, crate::proofs::Cells::row_long))]
+pub fn row(w: usize, cells: &[u16], r: usize) -> &[u16]
+    requires wide { 1 ≤ w }
+    requires inside { r < rows_in w cells.now }
+    ensures cells { result.now ≡ row_at w cells.now r }
+    ensures long { length result.now ≡ w }
+{
+    let start = r * w;
+    &cells[start..start + w]
+}
+
+/// How row r compares with a row, in the order of lists.
+pub fn compared(w: usize, cells: &[u16], r: usize, q: &[u16]) -> Ordering
+    requires wide { 1 ≤ w }
+    requires inside { r < rows_in w cells.now }
+    ensures { result ≡ slice_cmp nat_cmp (row_at w cells.now r) q.now }
+{
+    row(w, cells, r).cmp(q)
+}
+
+/// The first row that isn't greater than the one before it.
+pub fn drop_in(w: usize, cells: &[u16]) -> Option<usize>
+    requires wide { 1 ≤ w }
+    ensures { MatchOption result (IsAscending w cells.now (rows_in w cells.now)) (λ r. IsDrop w cells.now r) }
+{
+    for r in 1..cells.len() / w {
+        if !compared(w, cells, r - 1, row(w, cells, r)).is_lt() {
+            return Some(r);
+        }
+    }
+    None
+}
+
+/// Whether a row is one of ascending rows.
+pub fn is_listed(w: usize, cells: &[u16], q: &[u16]) -> bool
+    requires wide { 1 ≤ w }
+    requires ascending { IsAscending w cells.now (rows_in w cells.now) }
+    ensures listed { result ≡ true → IsListed w cells.now q.now }
+    ensures missing { result ≡ false → IsListed w cells.now q.now → ⊥ }
+{
+    let mut low = 0usize;
+    let mut high = cells.len() / w;
+    while low < high {
+        let middle = low + (high - low) / 2;
+        match compared(w, cells, middle, q) {
+            Ordering::Less => low = middle + 1,
+            Ordering::Greater => high = middle,
+            Ordering::Equal => return true,
+        }
+    }
+    false
+}
