@@ -4,6 +4,7 @@ use Rattle.wt_grid.specs.declared.axis.Axis.{Axis}
 use Rattle.wt_tile.specs.declared.tile.Tile.{Tile}
 use Rattle.wt_tile.specs.Matching.{tile_at, ahead, behind}
 use Rattle.wt_bijection.specs.Carried.{IsRenaming}
+use Rattle.wt_grid.specs.declared.limits.TheConstants.{MAX_COLOURS}
 
 -- each renaming that begins so carries each tile onto one with the same label
 abbrev pub AreKept : List Tile → List Tile → List ℕ → List ℕ → List ℕ → Type 0
@@ -13,4 +14,4 @@ AreKept from to start own other =
 
 -- at most 512 colours on each axis
 abbrev pub AreSmall : List Tile → Type 0
-AreSmall tiles = (axis : Axis) (i : ℕ) → (ahead axis (tile_at tiles i) < 512) × (behind axis (tile_at tiles i) < 512)
+AreSmall tiles = (axis : Axis) (i : ℕ) → (ahead axis (tile_at tiles i) < MAX_COLOURS) × (behind axis (tile_at tiles i) < MAX_COLOURS)

@@ -6,6 +6,7 @@ use Rattle.std.specs.Int.{rotate_left, w64}
 use Rattle.std.specs.List.{range_with_len}
 use Rattle.wt_tile.specs.declared.tile.Tile.{Tile}
 use Rattle.wt_tile.specs.Matching.{tile_at, ahead, behind}
+use Rattle.wt_grid.specs.declared.limits.TheConstants.{MAX_TILES, MAX_COLOURS}
 
 -- the sum of h at the numbers below n
 abbrev pub sum_below : (ℕ → ℕ) → ℕ → ℕ
@@ -32,11 +33,11 @@ share axis tiles labels c i =
 
 -- colour c gets so much more, held to 64 bits
 abbrev pub added : List ℕ → ℕ → ℕ → List ℕ
-added sums c x = if nat_lt c 512 then slice_set sums c (wrapped (slice_index sums c + x)) else sums
+added sums c x = if nat_lt c MAX_COLOURS then slice_set sums c (wrapped (slice_index sums c + x)) else sums
 
 -- the label of a colour: what all tiles add to it
 abbrev pub colour_label : Axis → List Tile → List ℕ → ℕ → ℕ
-colour_label axis tiles labels c = if nat_lt c 512 then wrapped (sum_below (share axis tiles labels c) (length tiles)) else 0
+colour_label axis tiles labels c = if nat_lt c MAX_COLOURS then wrapped (sum_below (share axis tiles labels c) (length tiles)) else 0
 
 -- the next label of tile i: of its own and those of its colours
 unfoldable pub next_label : List Tile → List ℕ → ℕ → ℕ
@@ -48,7 +49,7 @@ next_label tiles labels i =
 
 -- the next labels of 256 tiles
 unfoldable pub next_labels : List Tile → List ℕ → List ℕ
-next_labels tiles labels = map (next_label tiles labels) (range_with_len 0 256)
+next_labels tiles labels = map (next_label tiles labels) (range_with_len 0 MAX_TILES)
 
 -- so many rounds
 abbrev pub rounds : List Tile → ℕ → List ℕ → List ℕ
@@ -73,4 +74,4 @@ apart_label tiles n labels t = if nat_lt t (length tiles) then label_sum (rounds
 
 -- the same for each of 256 tiles
 unfoldable pub apart_labels : List Tile → ℕ → List ℕ → List ℕ
-apart_labels tiles n labels = map (apart_label tiles n labels) (range_with_len 0 256)
+apart_labels tiles n labels = map (apart_label tiles n labels) (range_with_len 0 MAX_TILES)

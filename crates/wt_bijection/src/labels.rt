@@ -5,10 +5,11 @@ ghost use Rattle.wt_grid.specs.declared.axis.Axis.TheVariants.{One, Two};
 ghost use Rattle.wt_bijection.specs.Labels.{scrambled, added, colour_label};
 ghost use Rattle.wt_bijection.specs.Labels as spec;
 
+use wt_grid::{MAX_COLOURS, MAX_TILES};
 use wt_tile::{Axis, Tile, ahead, behind, tile_at};
 
 /// A label for each of 256 tiles.
-pub type Labels = [u64; 256];
+pub type Labels = [u64; MAX_TILES];
 
 #[tactic(auto, unfolding(crate::specs::Labels::scrambled))]
 fn scramble(x: u64) -> u64
@@ -26,21 +27,21 @@ fn mixed(x: u64, y: u64) -> u64
     scramble(x.wrapping_add(y))
 }
 
-fn add_to(sums: &mut [u64; 512], colour: u16, label: u64)
+fn add_to(sums: &mut [u64; MAX_COLOURS], colour: u16, label: u64)
     ensures { sums.new ≡ added sums.old colour label }
 {
     let colour = usize::from(colour);
-    if colour < 512 {
+    if colour < MAX_COLOURS {
         sums[colour] = sums[colour].wrapping_add(label);
     }
 }
 
 /// The labels of the colours of an axis.
-fn colour_labels(axis: Axis, tiles: &[Tile], labels: &Labels) -> [u64; 512]
-    requires { length tiles.now ≤ 256 }
-    ensures { (c : ℕ) → c < 512 → slice_index result c ≡ colour_label axis tiles.now labels.now c }
+fn colour_labels(axis: Axis, tiles: &[Tile], labels: &Labels) -> [u64; MAX_COLOURS]
+    requires { length tiles.now ≤ MAX_TILES }
+    ensures { (c : ℕ) → c < MAX_COLOURS → slice_index result c ≡ colour_label axis tiles.now labels.now c }
 {
-    let mut sums = [0u64; 512];
+    let mut sums = [0u64; MAX_COLOURS];
     for i in 0..tiles.len() {
         let label = labels[i];
         let tile = tile_at(tiles, i as u16);
@@ -50,18 +51,28 @@ fn colour_labels(axis: Axis, tiles: &[Tile], labels: &Labels) -> [u64; 512]
     sums
 }
 
-fn label_at(sums: &[u64; 512], colour: u16) -> u64
-    ensures { result ≡ (if nat_lt colour 512 then slice_index sums.now colour else 0) }
+fn label_at(sums: &[u64; MAX_COLOURS], colour: u16) -> u64
+    ensures { result ≡ (if nat_lt colour MAX_COLOURS then slice_index sums.now colour else 0) }
 {
     let colour = usize::from(colour);
-    if colour < 512 { sums[colour] } else { 0 }
+    if colour < MAX_COLOURS {
+        sums[colour]
+    } else {
+        0
+    }
 }
 
 #[tactic(auto, unfolding(crate::specs::Labels::next_label))]
-fn next_label(tiles: &[Tile], labels: &Labels, i: u16, one: &[u64; 512], two: &[u64; 512]) -> u64
-    requires inside { i < 256 }
-    requires one { (c : ℕ) → c < 512 → slice_index one.now c ≡ colour_label One tiles.now labels.now c }
-    requires two { (c : ℕ) → c < 512 → slice_index two.now c ≡ colour_label Two tiles.now labels.now c }
+fn next_label(
+    tiles: &[Tile],
+    labels: &Labels,
+    i: u16,
+    one: &[u64; MAX_COLOURS],
+    two: &[u64; MAX_COLOURS],
+) -> u64
+    requires inside { i < MAX_TILES }
+    requires one { (c : ℕ) → c < MAX_COLOURS → slice_index one.now c ≡ colour_label One tiles.now labels.now c }
+    requires two { (c : ℕ) → c < MAX_COLOURS → slice_index two.now c ≡ colour_label Two tiles.now labels.now c }
     ensures { result ≡ spec.next_label tiles.now labels.now i }
 {
     let tile = tile_at(tiles, i);
@@ -73,12 +84,12 @@ fn next_label(tiles: &[Tile], labels: &Labels, i: u16, one: &[u64; 512], two: &[
 }
 
 fn next_labels(tiles: &[Tile], labels: &Labels) -> Labels
-    requires { length tiles.now ≤ 256 }
+    requires { length tiles.now ≤ MAX_TILES }
     ensures { result ≡ spec.next_labels tiles.now labels.now }
 {
     let one = colour_labels(Axis::One, tiles, labels);
     let two = colour_labels(Axis::Two, tiles, labels);
-    let mut next = [0u64; 256];
+    let mut next = [0u64; MAX_TILES];
     for i in 0..256u16 {
         next[usize::from(i)] = next_label(tiles, labels, i, &one, &two);
     }
@@ -88,9 +99,9 @@ fn next_labels(tiles: &[Tile], labels: &Labels) -> Labels
 /// The labels after so many rounds.
 #[tactic(auto, using(crate::proofs::Sums::rounds_more, crate::proofs::Kept::next_length))]
 pub fn rounds(tiles: &[Tile], count: u16, labels: &Labels) -> Labels
-    requires { length tiles.now ≤ 256 }
+    requires { length tiles.now ≤ MAX_TILES }
     ensures value { result ≡ spec.rounds tiles.now count labels.now }
-    ensures long { length result ≡ 256 }
+    ensures long { length result ≡ MAX_TILES }
 {
     let mut now = *labels;
     for round in 0..count {
@@ -101,7 +112,7 @@ pub fn rounds(tiles: &[Tile], count: u16, labels: &Labels) -> Labels
 
 /// The labels with that of tile t made another one.
 pub fn marked(labels: &Labels, t: u16) -> Labels
-    requires { t < 256 }
+    requires { t < MAX_TILES }
     ensures { result ≡ spec.marked labels.now t }
 {
     let mut next = *labels;
@@ -112,7 +123,7 @@ pub fn marked(labels: &Labels, t: u16) -> Labels
 
 /// All labels in one number, in whatever order.
 pub fn label_sum(labels: &Labels, count: usize) -> u64
-    requires { count ≤ 256 }
+    requires { count ≤ MAX_TILES }
     ensures { result ≡ spec.label_sum labels.now count }
 {
     let mut sum = 0u64;
@@ -124,8 +135,8 @@ pub fn label_sum(labels: &Labels, count: usize) -> u64
 
 /// The sum of all labels some rounds after tile t was told apart.
 fn apart_label(tiles: &[Tile], count: u16, labels: &Labels, t: u16) -> u64
-    requires few { length tiles.now ≤ 256 }
-    requires inside { t < 256 }
+    requires few { length tiles.now ≤ MAX_TILES }
+    requires inside { t < MAX_TILES }
     ensures { result ≡ spec.apart_label tiles.now count labels.now t }
 {
     if usize::from(t) >= tiles.len() {
@@ -136,11 +147,11 @@ fn apart_label(tiles: &[Tile], count: u16, labels: &Labels, t: u16) -> u64
 
 /// For each tile the sum of all labels some rounds after it was told apart.
 pub fn apart_labels(tiles: &[Tile], count: u16, labels: &Labels) -> Labels
-    requires { length tiles.now ≤ 256 }
+    requires { length tiles.now ≤ MAX_TILES }
     ensures value { result ≡ spec.apart_labels tiles.now count labels.now }
-    ensures long { length result ≡ 256 }
+    ensures long { length result ≡ MAX_TILES }
 {
-    let mut next = [0u64; 256];
+    let mut next = [0u64; MAX_TILES];
     for t in 0..256u16 {
         next[usize::from(t)] = apart_label(tiles, count, labels, t);
     }
@@ -149,7 +160,7 @@ pub fn apart_labels(tiles: &[Tile], count: u16, labels: &Labels) -> Labels
 
 /// How many different labels so many tiles have.
 fn count_labels(labels: &Labels, count: usize) -> usize
-    requires { count ≤ 256 }
+    requires { count ≤ MAX_TILES }
 {
     let mut sorted = *labels;
     let shown = &mut sorted[..count];
@@ -167,7 +178,7 @@ fn count_labels(labels: &Labels, count: usize) -> usize
 
 /// How many rounds tell all tiles apart that can be told, and one more. Nothing rests on this number but time.
 pub fn rounds_wanted(tiles: &[Tile], labels: &Labels) -> u16
-    requires { length tiles.now ≤ 256 }
+    requires { length tiles.now ≤ MAX_TILES }
 {
     let count = tiles.len();
     let mut now = *labels;
@@ -188,7 +199,7 @@ pub fn rounds_wanted(tiles: &[Tile], labels: &Labels) -> u16
 
 /// The same once one tile is told apart, whichever it is.
 pub fn rounds_apart(tiles: &[Tile], labels: &Labels) -> u16
-    requires { length tiles.now ≤ 256 }
+    requires { length tiles.now ≤ MAX_TILES }
 {
     let mut most = 0u16;
     for t in 0..tiles.len() as u16 {

@@ -8,11 +8,12 @@ ghost use Rattle.wt_bijection.specs.Labels as spec;
 use crate::labels::{Labels, apart_labels, label_sum, marked, rounds, rounds_apart, rounds_wanted};
 use crate::renaming::wrong_number;
 use std::alloc::{AllocError, Global};
+use wt_grid::MAX_TILES;
 use wt_tile::{SetRef, Tile};
 
 #[tactic(auto, unfolding(crate::specs::Renaming::renaming_fault))]
 fn is_renaming(from: &[Tile], to: &[Tile], list: &[u16]) -> bool
-    requires few { length from.now ≤ 256 }
+    requires few { length from.now ≤ MAX_TILES }
     requires alike { length from.now ≡ length to.now }
     requires whole { length from.now ≡ length list.now }
     ensures { result ≡ is_none (renaming_fault from.now to.now list.now) }
@@ -22,10 +23,10 @@ fn is_renaming(from: &[Tile], to: &[Tile], list: &[u16]) -> bool
 
 /// The labels of tiles once tile t is told apart.
 fn labels_with(tiles: &[Tile], labels: &Labels, t: u16, count: u16) -> Labels
-    requires few { length tiles.now ≤ 256 }
-    requires inside { t < 256 }
+    requires few { length tiles.now ≤ MAX_TILES }
+    requires inside { t < MAX_TILES }
     ensures value { result ≡ spec.rounds tiles.now count (spec.marked labels.now t) }
-    ensures long { length result ≡ 256 }
+    ensures long { length result ≡ MAX_TILES }
 {
     rounds(tiles, count, &marked(labels, t))
 }
@@ -39,13 +40,13 @@ fn seek(
     list: &mut [u16],
     i: usize,
 ) -> bool
-    requires few { length from.now ≤ 256 }
+    requires few { length from.now ≤ MAX_TILES }
     requires alike { length from.now ≡ length to.now }
     requires whole { length from.now ≡ length list.old }
     requires begun { i ≤ length list.old }
     requires small { AreSmall from.now × AreSmall to.now }
-    requires own { length own.now ≡ 256 }
-    requires other { length other.now ≡ 256 }
+    requires own { length own.now ≡ MAX_TILES }
+    requires other { length other.now ≡ MAX_TILES }
     requires kept { AreKept from.now to.now (take i list.old) own.now other.now }
     ensures same { take i list.new ≡ take i list.old }
     ensures found { result ≡ true → least_behind from.now to.now (length list.old - i) (take i list.old) ≡ Some list.new }
@@ -89,7 +90,7 @@ pub fn equivalent(
     if from.len() != to.len() {
         return Ok(None);
     }
-    let plain = [0u64; 256];
+    let plain = [0u64; MAX_TILES];
     let count = rounds_wanted(from, &plain);
     let own = rounds(from, count, &plain);
     let other = rounds(to, count, &plain);

@@ -8,7 +8,7 @@ use Rattle.wt_tile.specs.declared.tile.Tile.{Tile}
 use Rattle.wt_tile.specs.Matching.{matches, tile_at}
 use Rattle.wt_lane.specs.Masks.{mask_bit}
 use Rattle.wt_lane.proofs.Bits.{no_bit}
-use Rattle.wt_mask.specs.declared.sides.TheConstants.{COLOURS}
+use Rattle.wt_grid.specs.declared.limits.TheConstants.{MAX_COLOURS}
 use Rattle.wt_mask.specs.declared.sides.Way.{Way}
 use Rattle.wt_mask.specs.declared.sides.Way.TheVariants.{Right, Left, Up, Down}
 use Rattle.wt_mask.specs.Masks.{bit, mask_at, may_stand, edge, turned, IsMet}
@@ -25,9 +25,9 @@ off true b e = rw e refl
 off false b e = refl
 
 -- where there is no bit, none of the first 0 tiles is missed
-pub met_none : (ts : List Tile) (way : Way) (colour : ℕ) → colour < COLOURS → IsMet ts way 0 colour (mask_at (replicate COLOURS (replicate 4 0)) colour)
+pub met_none : (ts : List Tile) (way : Way) (colour : ℕ) → colour < MAX_COLOURS → IsMet ts way 0 colour (mask_at (replicate MAX_COLOURS (replicate 4 0)) colour)
 met_none ts way colour lt u =
-    let here : mask_at (replicate COLOURS (replicate 4 0)) colour ≡ replicate 4 0 = get_or-replicate COLOURS colour (replicate 4 0) [] lt in
+    let here : mask_at (replicate MAX_COLOURS (replicate 4 0)) colour ≡ replicate 4 0 = get_or-replicate MAX_COLOURS colour (replicate 4 0) [] lt in
     let word : get_or (replicate {A = ℕ} 4 0) (u / 64) 0 ≡ 0 = elim (cases_lt (u / 64) 4) [
       | inl low ↦ get_or-replicate 4 (u / 64) 0 0 low
       | inr high ↦ get_or_past (replicate {A = ℕ} 4 0) (u / 64) 0 (omega (arith, length-replicate {A = ℕ} 4 0))
@@ -61,8 +61,8 @@ module _ (ts : List Tile) (way : Way) (n : ℕ) where
 
   pub met_more : (rows : List (List ℕ)) (mask : List ℕ) (at : ℕ) → at ≡ turned way (tile_at ts n) → at < length rows
       → ((k : ℕ) → mask_bit mask k ≡ cond (nat_eq k n) 1 (mask_bit (mask_at rows at) k))
-      → ((colour : ℕ) → colour < COLOURS → IsMet ts way n colour (mask_at rows colour))
-      → (colour : ℕ) → colour < COLOURS → IsMet ts way (n + 1) colour (mask_at (slice_set rows at mask) colour)
+      → ((colour : ℕ) → colour < MAX_COLOURS → IsMet ts way n colour (mask_at rows colour))
+      → (colour : ℕ) → colour < MAX_COLOURS → IsMet ts way (n + 1) colour (mask_at (slice_set rows at mask) colour)
   met_more rows mask at e lt set met colour low = elim (cases_eq colour at) [
     | inl same ↦
         let here : mask_at (slice_set rows at mask) colour ≡ mask = ap (mask_at (slice_set rows at mask)) same ∙ get_or-set_same rows at mask [] lt in
@@ -74,9 +74,9 @@ module _ (ts : List Tile) (way : Way) (n : ℕ) where
         λ u. ap (λ (k : List ℕ). mask_bit k u) there ∙ m u
   ]
 
-  pub met_past : (rows : List (List ℕ)) (at : ℕ) → at ≡ turned way (tile_at ts n) → COLOURS ≤ at
-      → ((colour : ℕ) → colour < COLOURS → IsMet ts way n colour (mask_at rows colour))
-      → (colour : ℕ) → colour < COLOURS → IsMet ts way (n + 1) colour (mask_at rows colour)
+  pub met_past : (rows : List (List ℕ)) (at : ℕ) → at ≡ turned way (tile_at ts n) → MAX_COLOURS ≤ at
+      → ((colour : ℕ) → colour < MAX_COLOURS → IsMet ts way n colour (mask_at rows colour))
+      → (colour : ℕ) → colour < MAX_COLOURS → IsMet ts way (n + 1) colour (mask_at rows colour)
   met_past rows at e le met colour low = missed (mask_at rows colour) colour (λ c. absurd (omega (arith, e, c))) (met colour low)
 
 turn : (a b : ℕ) → nat_eq a b ≡ nat_eq b a

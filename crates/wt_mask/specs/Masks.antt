@@ -4,7 +4,7 @@ use Rattle.wt_grid.specs.declared.axis.Axis.TheVariants.{One, Two}
 use Rattle.wt_tile.specs.declared.tile.Tile.{Tile}
 use Rattle.wt_tile.specs.Matching.{matches, ahead, behind, tile_at}
 use Rattle.wt_lane.specs.Masks.{mask_bit}
-use Rattle.wt_mask.specs.declared.sides.TheConstants.{COLOURS}
+use Rattle.wt_grid.specs.declared.limits.TheConstants.{MAX_COLOURS}
 use Rattle.wt_mask.specs.declared.sides.Way.{Way}
 use Rattle.wt_mask.specs.declared.sides.Way.TheVariants.{Right, Left, Up, Down}
 
@@ -44,4 +44,4 @@ IsMet ts way n colour mask = (u : ℕ) → mask_bit mask u ≡ bit (nat_lt u n &
 
 -- for each of the colours that have a mask of their own, the tiles that meet it on this side
 abbrev pub IsSide : List Tile → Way → List (List ℕ) → Type 0
-IsSide ts way rows = (colour : ℕ) → colour < COLOURS → IsMet ts way (length ts) colour (mask_at rows colour)
+IsSide ts way rows = (colour : ℕ) → colour < MAX_COLOURS → IsMet ts way (length ts) colour (mask_at rows colour)

@@ -3,8 +3,10 @@ ghost use Rattle.std.specs.Prelude.{◌≡◌, ℕ, ◌<◌, ◌≤◌, ◌&&◌
 ghost use Rattle.wt_lane.specs.Masks.{mask_bit};
 ghost use Rattle.wt_mask.specs.Masks as spec;
 ghost use Rattle.wt_mask.specs.declared.sides.Way.TheVariants.{Right, Left, Up, Down};
+ghost use Rattle.wt_grid.specs.declared.limits.TheConstants as limits;
 
 use crate::mask::set_bit;
+use wt_grid::{MAX_COLOURS, MAX_TILES};
 use wt_tile::{Axis, Tile, ahead, behind, is_match, tile_at};
 
 /// A side of a cell.
@@ -20,22 +22,19 @@ pub enum Way {
     Down,
 }
 
-/// How many colours have a mask of their own: a set of 256 tiles whose colours are numbered has no more on
-/// a side. A colour from here on is answered tile by tile.
-const COLOURS: usize = 512;
-
 /// For each colour and each side of a tile, the mask of the tiles that meet it there; and the mask of all.
+/// Colours from `MAX_COLOURS` on, which no set has, are answered tile by tile.
 /// Made once for a list of tiles, in one walk over it for each side; takes no memory.
 #[derive(Drop)]
 pub struct Sides<'a> {
     /// The tiles whose masks these are, at most 256.
     pub tiles: &'a [Tile],
     all: [u64; 4],
-    right: [[u64; 4]; COLOURS],
-    left: [[u64; 4]; COLOURS],
-    up: [[u64; 4]; COLOURS],
-    down: [[u64; 4]; COLOURS],
-    ghost few: { length tiles.now ≤ 256 },
+    right: [[u64; 4]; MAX_COLOURS],
+    left: [[u64; 4]; MAX_COLOURS],
+    up: [[u64; 4]; MAX_COLOURS],
+    down: [[u64; 4]; MAX_COLOURS],
+    ghost few: { length tiles.now ≤ limits.MAX_TILES },
     ghost whole: { (u : ℕ) → mask_bit all u ≡ spec.bit (nat_lt u (length tiles.now)) },
     ghost right_side: { spec.IsSide tiles.now Right right },
     ghost left_side: { spec.IsSide tiles.now Left left },
@@ -81,7 +80,7 @@ fn may_stand(tiles: &[Tile], way: Way, t: u16, u: u16) -> bool
 
 /// The mask of all tiles.
 fn all_tiles(tiles: &[Tile]) -> [u64; 4]
-    requires { length tiles.now ≤ 256 }
+    requires { length tiles.now ≤ MAX_TILES }
     ensures { (u : ℕ) → mask_bit result u ≡ spec.bit (nat_lt u (length tiles.now)) }
 {
     let mut mask = [0u64; 4];
@@ -93,7 +92,7 @@ fn all_tiles(tiles: &[Tile]) -> [u64; 4]
 
 /// The mask of the tiles that may stand on a side of a tile, tile by tile.
 fn mask_beside(tiles: &[Tile], way: Way, t: u16) -> [u64; 4]
-    requires { length tiles.now ≤ 256 }
+    requires { length tiles.now ≤ MAX_TILES }
     ensures { (u : ℕ) → mask_bit result u ≡ spec.bit (nat_lt u (length tiles.now) && spec.may_stand tiles.now way t u) }
 {
     let mut mask = [0u64; 4];
@@ -105,21 +104,21 @@ fn mask_beside(tiles: &[Tile], way: Way, t: u16) -> [u64; 4]
     mask
 }
 
-fn no_masks() -> [[u64; 4]; COLOURS]
-    ensures { result ≡ replicate COLOURS (replicate 4 0) }
+fn no_masks() -> [[u64; 4]; MAX_COLOURS]
+    ensures { result ≡ replicate MAX_COLOURS (replicate 4 0) }
 {
-    [[0; 4]; COLOURS]
+    [[0; 4]; MAX_COLOURS]
 }
 
 /// For each colour the mask of the tiles that meet it on a side.
-fn side(tiles: &[Tile], way: Way) -> [[u64; 4]; COLOURS]
-    requires { length tiles.now ≤ 256 }
+fn side(tiles: &[Tile], way: Way) -> [[u64; 4]; MAX_COLOURS]
+    requires { length tiles.now ≤ MAX_TILES }
     ensures { spec.IsSide tiles.now way result }
 {
     let mut rows = no_masks();
     for u in 0..tiles.len() {
         let colour = usize::from(turned(way, tile_at(tiles, u as u16)));
-        if colour >= COLOURS {
+        if colour >= MAX_COLOURS {
             continue;
         }
         let mut mask = rows[colour];
@@ -132,7 +131,7 @@ fn side(tiles: &[Tile], way: Way) -> [[u64; 4]; COLOURS]
 impl<'a> Sides<'a> {
     /// The masks of a list of at most 256 tiles.
     pub fn new(tiles: &'a [Tile]) -> Sides<'a>
-        requires { length tiles.now ≤ 256 }
+        requires { length tiles.now ≤ MAX_TILES }
         ensures { result.tiles.now ≡ tiles.now }
     {
         Sides {
@@ -154,7 +153,7 @@ impl<'a> Sides<'a> {
 
     /// The mask of the tiles that meet a colour on a side, of those that have a mask of their own.
     fn met(&self, way: Way, colour: usize) -> [u64; 4]
-        requires { colour < COLOURS }
+        requires { colour < MAX_COLOURS }
         ensures { spec.IsMet self.now.tiles.now way (length self.now.tiles.now) colour result }
     {
         match way {
@@ -171,7 +170,7 @@ impl<'a> Sides<'a> {
         ensures { (u : ℕ) → mask_bit result u ≡ spec.bit (nat_lt u (length self.now.tiles.now) && spec.may_stand self.now.tiles.now way tile u) }
     {
         let colour = usize::from(edge(way, tile_at(self.tiles, tile)));
-        if colour < COLOURS {
+        if colour < MAX_COLOURS {
             self.met(way, colour)
         } else {
             mask_beside(self.tiles, way, tile)

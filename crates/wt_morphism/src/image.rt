@@ -6,7 +6,7 @@ use wt_tile::Axis;
 
 /// The images of the tiles 0, 1, .. along an axis: a substitution that gives each tile one or two
 /// (Labbé, "Substitutive structure of Jeandel-Rao aperiodic tilings").
-#[derive(Drop)]
+#[derive(Debug, Drop)]
 pub struct Morphism {
     /// The axis along which images are laid.
     pub axis: Axis,

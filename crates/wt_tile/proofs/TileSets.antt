@@ -188,7 +188,7 @@ names_apart (y ∷ ys) e (suc i) zero x p q =
     absurd (cc)
 names_apart (y ∷ ys) e (suc i) (suc j) x p q = ap suc (names_apart ys (and_parts (not (is_among y ys)) (apart ys) e).1 i j x p q)
 
-apart_names : (xs : List (List ℕ)) → AllApart xs → apart xs ≡ true
+pub apart_names : (xs : List (List ℕ)) → AllApart xs → apart xs ≡ true
 apart_names [] h = refl
 apart_names (y ∷ ys) h = by (is_among y ys) refl (apart_names ys (λ i j x p q. let e : suc i ≡ suc j = h (suc i) (suc j) x p q in omega arith))
   where
@@ -340,6 +340,19 @@ tile_set l e =
       named = λ axis. elim axis as (λ x. (c : ℕ) → Contains (edges x l.tiles) c ↔ (c < length (names x l))) [ One ↦ is_named (length l.names1) (edges One l.tiles) order.0 m1 | Two ↦ is_named (length l.names2) (edges Two l.tiles) order.1 m2 ];
       apart = λ axis. elim axis as (λ x. AllApart (names x l)) [ One ↦ names_apart l.names1 n1.0 | Two ↦ names_apart l.names2 n2.0 ];
     }
+
+reach_within : (n named : ℕ) (cs : List ℕ) → n ≤ named → Goes n named cs → reach n cs ≤ named
+reach_within n named [] le g = le
+reach_within n named (c ∷ cs) le g = reach_within (max n (c + 1)) named cs (let lt = g.1 in omega arith) g.2
+
+-- the colours of a tile set come in order, and as many as have names
+pub set_goes : (l : TileList) → IsTileSet l → (axis : Axis) → Goes 0 (length (names axis l)) (edges axis l.tiles) × (reach 0 (edges axis l.tiles) ≡ length (names axis l))
+set_goes l s axis =
+    let n = length (names axis l) in
+    let g : Goes 0 n (edges axis l.tiles) = numbered_goes 0 n [] (edges axis l.tiles) (λ d h. absurd (let lt = h.1 in omega arith)) (s.numbered axis) (λ c h. (s.named axis c).0 h) in
+    let some = names_reach n (edges axis l.tiles) (λ k lt. (s.named axis k).1 lt) in
+    let most = reach_within 0 n (edges axis l.tiles) (omega arith) g in
+    (g, omega arith)
 
 pub no_fault : (l : TileList) → IsTileSet l → set_fault l ≡ None
 unfolding set_fault

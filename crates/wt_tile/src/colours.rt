@@ -6,6 +6,7 @@ use crate::Edge;
 use indexmap::IndexSet;
 use std::alloc::Global;
 use std::marker::Model;
+use wt_grid::MAX_COLOURS;
 
 /// Why an edge gets no number.
 #[derive(Clone, Copy, Debug, PartialEq, Eq)]
@@ -16,10 +17,8 @@ pub enum ColourFault {
     OutOfMemory,
 }
 
-const MAX_COLOURS: usize = 512;
-
 /// Edges, each with the number of its first coming. Seen by contracts as the list of the edges in that order.
-#[derive(Drop)]
+#[derive(Debug, Drop)]
 pub struct Colours {
     edges: IndexSet<Edge>,
 }

@@ -11,7 +11,7 @@ use std::marker::Model;
 use wt_grid::MAX_TILES;
 
 /// A list that is known to be a tile set, borrowed: whoever holds one need not test it again.
-#[derive(Clone, Copy)]
+#[derive(Clone, Copy, Debug)]
 pub struct SetRef<'a> {
     /// The list of the set.
     pub list: &'a TileList,
@@ -19,7 +19,7 @@ pub struct SetRef<'a> {
 }
 
 /// A tile set: it owns a list that is one, and is seen by contracts as that list.
-#[derive(Drop)]
+#[derive(Debug, Drop)]
 pub struct TileSet {
     list: TileList,
 }

@@ -22,7 +22,7 @@ pub struct Tile {
 
 /// Tiles, and the names of the colours of each axis: a colour's number is the place of its name.
 /// Any such list; one without a fault is a tile set.
-#[derive(Drop)]
+#[derive(Debug, Drop)]
 pub struct TileList {
     /// The tiles: tile i at place i.
     pub tiles: Seq<Tile>,

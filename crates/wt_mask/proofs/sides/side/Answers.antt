@@ -1,12 +1,12 @@
 use Rattle.std.proofs.Common.{arith, ap, ◌∙◌, length, List, ℕ, replicate}
 use Rattle.std.proofs.lemmas.List.{length-replicate, length-set}
-use Rattle.wt_mask.specs.declared.sides.TheConstants.{COLOURS}
+use Rattle.wt_grid.specs.declared.limits.TheConstants.{MAX_COLOURS}
 use Rattle.wt_mask.proofs.Meets.{met_none, met_more}
 use Rattle.wt_mask.proofs.sides.side.Goals as goal
 
 pub loop-u-init : goal.loop-u-init
 loop-u-init c = record {
-  long = ap length c.no_masks-rows.ensures ∙ length-replicate {A = List ℕ} COLOURS (replicate 4 0);
+  long = ap length c.no_masks-rows.ensures ∙ length-replicate {A = List ℕ} MAX_COLOURS (replicate 4 0);
   met = λ colour lt. rw c.no_masks-rows.ensures (met_none c.args.tiles.now c.args.way colour lt);
 }
 
