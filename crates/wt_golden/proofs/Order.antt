@@ -12,6 +12,7 @@ use Rattle.wt_ring.proofs.Ring.{x_, n_, ◌⊕◌, ◌⊗◌, ⊖_, solve}
 use Rattle.wt_ring.proofs.Integers.{integers}
 use Rattle.wt_golden.proofs.Products.{mul_above, mul_not_below, square_not_below, outweighs, no_root}
 use Rattle.wt_golden.proofs.WholeRing.{golden, same_whole, times_comm, plus_comm, times_zero, times_a, times_b, norm_of, twice, norm_times, norm_opposite, twice_opposite, norm_squares, twice_times, b_times, norm_plus, twice_plus, uv_square, ud_square}
+use Rattle.wt_golden.proofs.Signs.{lt_yes, le_yes}
 
 -- Above 0, by the norm: where it is positive, 2 a + b decides, and where it is negative, b.
 pub record Outer (x : Whole) : Type 0 where
@@ -203,12 +204,6 @@ below_of x y e = omega (arith, ints)
 at_most_of : (x y : ℤ) → int_le x y ≡ true → x ≤ℤ y
 at_most_of x y e = omega (arith, ints)
 
-below_to : (x y : ℤ) → x <ℤ y → int_lt x y ≡ true
-below_to x y h = sym (true_is_lt x y (omega (arith, ints)))
-
-at_most_to : (x y : ℤ) → x ≤ℤ y → int_le x y ≡ true
-at_most_to x y h = sym (true_is_le x y (omega (arith, ints)))
-
 some_above : (u b : ℤ) → (int_lt (pos 0) u || int_lt (pos 0) b) ≡ true → (pos 0 <ℤ u) ⊎ (pos 0 <ℤ b)
 some_above u b h = elim (or_cases (int_lt (pos 0) u) (int_lt (pos 0) b) h) as (λ _. (pos 0 <ℤ u) ⊎ (pos 0 <ℤ b)) [ inl e ↦ inl (below_of _ _ e) | inr e ↦ inr (below_of _ _ e) ]
 
@@ -257,16 +252,16 @@ to_definition : (u b n : ℤ) → pos 4 *ℤ n +ℤ pos 5 *ℤ (b *ℤ b) ≡ u 
     → ((pos 0 <ℤ n) × (pos 0 <ℤ u)) ⊎ ((n <ℤ pos 0) × (pos 0 <ℤ b)) → above_zero u b ≡ true
 to_definition u b n e (inl o) =
     by_lt_z b (pos 0)
-    (λ l. or_left _ _ (or_right _ _ (and_from _ _ (and_from _ _ (below_to (pos 0) u o.1) (below_to b (pos 0) l))
-    (below_to (pos 5 *ℤ (b *ℤ b)) (u *ℤ u) (omega (arith, ints, e, o.0))))))
-    (λ l. or_left _ _ (or_left _ _ (and_from _ _ (and_from _ _ (at_most_to (pos 0) u (omega (arith, ints, o.1))) (at_most_to (pos 0) b l))
-    (or_left _ _ (below_to (pos 0) u o.1)))))
+    (λ l. or_left _ _ (or_right _ _ (and_from _ _ (and_from _ _ (lt_yes (pos 0) u o.1) (lt_yes b (pos 0) l))
+    (lt_yes (pos 5 *ℤ (b *ℤ b)) (u *ℤ u) (omega (arith, ints, e, o.0))))))
+    (λ l. or_left _ _ (or_left _ _ (and_from _ _ (and_from _ _ (le_yes (pos 0) u (omega (arith, ints, o.1))) (le_yes (pos 0) b l))
+    (or_left _ _ (lt_yes (pos 0) u o.1)))))
 to_definition u b n e (inr i) =
     by_lt_z u (pos 0)
-    (λ l. or_right _ _ (and_from _ _ (and_from _ _ (below_to u (pos 0) l) (below_to (pos 0) b i.1))
-    (below_to (u *ℤ u) (pos 5 *ℤ (b *ℤ b)) (omega (arith, ints, e, i.0)))))
-    (λ l. or_left _ _ (or_left _ _ (and_from _ _ (and_from _ _ (at_most_to (pos 0) u l) (at_most_to (pos 0) b (omega (arith, ints, i.1))))
-    (or_right _ _ (below_to (pos 0) b i.1)))))
+    (λ l. or_right _ _ (and_from _ _ (and_from _ _ (lt_yes u (pos 0) l) (lt_yes (pos 0) b i.1))
+    (lt_yes (u *ℤ u) (pos 5 *ℤ (b *ℤ b)) (omega (arith, ints, e, i.0)))))
+    (λ l. or_left _ _ (or_left _ _ (and_from _ _ (and_from _ _ (le_yes (pos 0) u l) (le_yes (pos 0) b (omega (arith, ints, i.1))))
+    (or_right _ _ (lt_yes (pos 0) b i.1)))))
 
 pub to_above : (x : Whole) → IsPositive x → Above x
 unfolding is_positive
