@@ -7,7 +7,7 @@ use std::alloc::{AllocError, Global};
 use std::marker::Model;
 
 /// A vector that contracts see as the list of its elements: neither its capacity nor its allocator counts.
-#[derive(Drop)]
+#[derive(Debug, Drop)]
 pub struct Seq<T> {
     items: Vec<T>,
 }
