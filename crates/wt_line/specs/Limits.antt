@@ -1,7 +1,8 @@
--- The words of the limits, and the limit of a number that has none of its own.
-use Rattle.std.specs.Prelude.{ℕ, List, Option, Result, codes}
-use Rattle.wt_text.specs.Readers.{number_to}
-use Rattle.wt_line.specs.declared.limits.TheConstants.{MOST}
+-- The words of the limits, and the numbers of a line with their limits.
+use Rattle.std.specs.Prelude.{ℕ, nat_eq, if◌then◌else◌, List, [], ◌∷◌, Option, None, Some, Result, codes}
+use Rattle.wt_text.specs.Words.{number}
+use Rattle.wt_text.specs.Readers.{◌>>=◌, within, number_to}
+use Rattle.wt_line.specs.declared.limits.TheConstants.{MOST, MAX_RADIUS}
 use Rattle.wt_line.specs.declared.faults.What.{What}
 use Rattle.wt_line.specs.declared.faults.What.TheVariants.{Steps, Radius, Tiles, Pairs, Nodes, Depth, Expansion, Number, Width, Height, Power, Turns, Regions, Planes, Golden, Rows}
 
@@ -27,3 +28,12 @@ limit_word Rows = codes "rows"
 -- a number that has no limit of its own: at most 65,535
 abbrev pub small : List (List ℕ) → Option (Result ℕ What × List (List ℕ))
 small = number_to MOST Number
+
+-- a radius: at most 4
+abbrev pub radius : List (List ℕ) → Option (Result ℕ What × List (List ℕ))
+radius = number_to MAX_RADIUS Radius
+
+-- a number of at least 1, with a limit: 0 is no such number
+abbrev pub number_from_one : ℕ → What → List (List ℕ) → Option (Result ℕ What × List (List ℕ))
+number_from_one most what [] = None
+number_from_one most what (t ∷ ts) = number t >>= λ n. if nat_eq n 0 then None else Some (within most what n, ts)

@@ -7,7 +7,7 @@ use crate::faults::TextFault;
 use wt_io::cut;
 
 /// The lines of a text that are left, and the number of the next.
-#[derive(Clone, Copy)]
+#[derive(Clone, Copy, Debug)]
 pub struct Place<'a> {
     /// The bytes of the lines that are left.
     pub bytes: &'a [u8],

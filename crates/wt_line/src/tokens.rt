@@ -10,7 +10,7 @@ use crate::faults::LineFault;
 use wt_io::cut;
 
 /// The tokens of a line that are left: those of its last part, or none.
-#[derive(Clone, Copy)]
+#[derive(Clone, Copy, Debug)]
 pub struct Rest<'a> {
     /// The last part of the line, which holds the tokens that are left.
     pub line: &'a [u8],
