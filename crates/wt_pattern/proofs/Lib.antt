@@ -1,6 +1,5 @@
 pub mod Names
 pub mod TileTurns
-pub mod Ends
 pub mod CellTurns
 pub mod First
 pub mod Lines
@@ -15,3 +14,5 @@ pub mod Written
 pub mod SetTexts
 pub mod PatternTexts
 pub mod Drawn
+pub mod Plain
+pub mod SetsListed

@@ -1,5 +1,5 @@
 -- Patterns as text, both ways.
-use Rattle.std.proofs.Common.{rules, arith, ◌≡◌, ℕ, zero, suc, ◌+◌, ◌-◌, ◌*◌, ◌≤◌, ◌<◌, ◌++◌, List, [], ◌∷◌, length, take, drop, min, Result, Ok, refl, sym, ap, ◌∙◌, subst, append_assoc, length-append, length-drop, length-take}
+use Rattle.std.proofs.Common.{rules, arith, ◌≡◌, ℕ, zero, suc, ◌+◌, ◌-◌, ◌*◌, ◌≤◌, ◌<◌, ◌++◌, List, [], ◌∷◌, length, take, drop, min, Result, Ok, refl, sym, ap, ◌∙◌, subst, append-nil, append_assoc, length-append, length-drop, length-take}
 use Rattle.std.specs.List.{flat_map}
 use Rattle.std.proofs.Math.Seq.{take-add}
 use Rattle.std.proofs.lemmas.Nat.{mul-le}
@@ -52,14 +52,10 @@ made_below w h (r ∷ rs) more fits =
     turned : (a b : ℕ) → a * b ≡ b * a
     turned a b = grind arith
 
-append_nil : (x : List ℕ) → x ++ [] ≡ x
-append_nil [] = refl
-append_nil (y ∷ ys) = ap (λ (r : List ℕ). y ∷ r) (append_nil ys)
-
 rows_back : (w h : ℕ) (rows : List (List ℕ)) → (length rows ≡ h) × FitInTurn (λ s. CellsFit w) no_state 0 rows → rows_below (rows_grid w h rows) h ≡ rows
 rows_back w h rows fits =
     ap (rows_below (rows_grid w h rows)) (sym fits.0)
-    ∙ ap (λ (cs : List ℕ). rows_below (record { width = w; height = h; cells = cs }) (length rows)) (sym (append_nil (from_bottom rows)))
+    ∙ ap (λ (cs : List ℕ). rows_below (record { width = w; height = h; cells = cs }) (length rows)) (sym (append-nil (from_bottom rows)))
     ∙ made_below w h rows [] fits.1
 
 abbrev pub GridFits : ℕ → ℕ → Grid → Type 0

@@ -11,3 +11,4 @@ pub mod Writing
 pub mod SetTexts
 pub mod Drawings
 pub mod Texts
+pub mod Plain

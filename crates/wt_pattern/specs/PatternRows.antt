@@ -1,13 +1,12 @@
 -- Patterns as text: a row of numbers in each line, the top row first.
-use Rattle.std.specs.Prelude.{◌≡◌, ℕ, zero, suc, ◌+◌, ◌*◌, ◌≤◌, nat_eq, if◌then◌else◌, List, [], ◌∷◌, ◌++◌, length, map, slice_range, Option, None, Some, Result, Ok, codes}
+use Rattle.std.specs.Prelude.{◌≡◌, ℕ, zero, suc, ◌+◌, ◌*◌, ◌≤◌, List, [], ◌∷◌, ◌++◌, length, map, slice_range, Option, None, Some, Result, Ok, codes}
 use Rattle.std.specs.List.{flat_map}
 use Rattle.std.specs.Fmt.{decimal}
 use Rattle.wt_line.specs.declared.faults.What.{What}
-use Rattle.wt_line.specs.Limits.{small}
+use Rattle.wt_line.specs.Limits.{small, number_from_one}
 use Rattle.wt_line.specs.declared.faults.What.TheVariants.{Width, Height}
-use Rattle.wt_text.specs.Words.{number}
 use Rattle.wt_text.specs.Lines.{Line}
-use Rattle.wt_text.specs.Readers.{◌>>=◌, LineFault, TextFault, within, value_behind, both, whole, value_in_front, one_line, many_parts, seen_as, part_by}
+use Rattle.wt_text.specs.Readers.{◌>>=◌, LineFault, TextFault, value_behind, both, whole, value_in_front, one_line, many_parts, seen_as, part_by}
 use Rattle.wt_text.specs.Spellings.{behind_spelling, both_spelling, number_spelling, line_spelling}
 use Rattle.wt_grid.specs.Grid.{Grid}
 use Rattle.wt_grid.specs.declared.limits.TheConstants.{MAX_SIDE}
@@ -39,14 +38,9 @@ rows_grid width height rows = record { width = width; height = height; cells = f
 abbrev pub pattern_rows : ℕ → ℕ → ℕ × List Line → Result (Grid × (ℕ × List Line)) (TextFault What)
 pattern_rows width height = seen_as (rows_grid width height) (cells_rows width height)
 
--- a width or a height: at least 1
-abbrev pub side_word : What → List (List ℕ) → Option (Result ℕ What × List (List ℕ))
-side_word what [] = None
-side_word what (t ∷ ts) = number t >>= λ n. if nat_eq n 0 then None else Some (within MAX_SIDE what n, ts)
-
 -- pattern w h
 abbrev pub shape_form : List (List ℕ) → Result (ℕ × ℕ) (LineFault What)
-shape_form = whole (value_behind (codes "pattern") (both (side_word Width) (side_word Height)))
+shape_form = whole (value_behind (codes "pattern") (both (number_from_one MAX_SIDE Width) (number_from_one MAX_SIDE Height)))
 
 -- the pattern alone, without the width and the height that its text begins with
 abbrev pub only_rows : (ℕ × ℕ) × Grid → Grid

@@ -13,6 +13,9 @@ ghost use Rattle.wt_grid.specs.Parts.{AllBelow, IsValid, IsWindow};
 ghost use Rattle.wt_grid.specs.Shifts.{IsRepeated, Repeats};
 ghost use Rattle.wt_line.specs.declared.faults.What.{What};
 ghost use Rattle.wt_tile.specs.declared.tile.TileList.{TileList};
+ghost use Rattle.std.specs.List.{All};
+ghost use Rattle.wt_tile.specs.Names.{IsName};
+ghost use Rattle.wt_tile.specs.Sets as spec;
 ghost use Rattle.wt_text.specs.Lines.{lines, bytes_of};
 ghost use Rattle.wt_text.specs.Readers.{whole_text};
 ghost use Rattle.wt_names.specs.Rows.{IsNumbered};
@@ -91,6 +94,12 @@ pub fn set_texts_are_exact()
 pub fn listed_tiles_are_numbered()
     ensures numbered { (list : TileList) → IsListed list → IsNumbered (as_numbered list) }
     ensures listed { (list : TileList) → RowsFit (list_rows list) → IsNumbered (as_numbered list) → IsListed list }
+{}
+
+/// A tile set has a text, where each name of its colours has the form of one: its colours are numbered by first
+/// coming, as a text numbers them.
+pub fn sets_have_texts()
+    ensures { (list : TileList) → spec.set_fault list ≡ None → All IsName list.names1 → All IsName list.names2 → IsListed list }
 {}
 
 /// A text is read as a pattern of a width and a height exactly where it is the text of a rectangle of that width

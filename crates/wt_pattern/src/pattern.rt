@@ -9,7 +9,7 @@ use wt_grid::MAX_SIDE;
 
 /// A rectangle of 1 to 4096 by 1 to 4096 numbers of tiles. Row 0 is the bottom row, and cells are kept
 /// in reading order: row by row, each from left to right. Seen by contracts as a `Grid`.
-#[derive(Drop)]
+#[derive(Debug, Drop)]
 pub struct Pattern {
     width: usize,
     height: usize,

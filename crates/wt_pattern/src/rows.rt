@@ -1,6 +1,6 @@
 // Rows of four colour names, and the tiles that they stand for.
 ghost use Rattle.std.specs.Prelude.{◌≡◌, ◌+◌, ◌<◌, ◌≤◌, ◌^◌, MatchOption, OnOk, IfOk, Ok, true, false, length, vec_len};
-ghost use Rattle.wt_tile.specs.Sets.{is_among};
+ghost use Rattle.wt_tile.specs.Sets.{is_among, set_fault};
 ghost use Rattle.wt_text.specs.Words.{tokens};
 ghost use Rattle.wt_line.specs.declared.faults.What.{What};
 ghost use Rattle.wt_line.specs.Given.{left};
@@ -8,6 +8,7 @@ ghost use Rattle.wt_line.specs.Faults.{ReadsTokens, ReadsLine, ReadsText};
 ghost use Rattle.wt_names.specs.Numbering.{place, seen_after};
 ghost use Rattle.wt_names.specs.Rows.{name_word, row_form, is_name, RowFits};
 ghost use Rattle.wt_pattern.specs.TileRows.{row_part, tile_rows};
+ghost use Rattle.wt_pattern.specs.Plain.{IsPlain};
 ghost use Rattle.wt_pattern.specs.Numbered.{four_names, row_words, row_named, next_tile};
 ghost use Rattle.wt_line.specs.Left.{tokens_left, lines_left, ReadsPlace};
 
@@ -135,14 +136,16 @@ fn numbered(
 }
 
 /// So many rows of four colour names as a list of tiles, and the place behind them. The names are the right, the
-/// top, the left and the bottom one; the colours of each axis are numbered by first coming.
+/// top, the left and the bottom one; the colours of each axis are numbered by first coming. So such a list is a tile
+/// set, but that it may be empty or repeat a tile.
 pub fn tiles_at(
     alloc: Global,
     count: usize,
     place: Place<'_>,
 ) -> Result<(TileList, Place<'_>), TextFault>
     requires { count ≤ MAX_TILES }
-    ensures { ReadsPlace (tile_rows count) result place.entry }
+    ensures read { ReadsPlace (tile_rows count) result place.entry }
+    ensures plain { IfOk result (λ x. IsPlain (set_fault x.0)) }
 {
     let mut tiles = Vec::new(alloc);
     let mut names1 = Vec::new(alloc);

@@ -5,8 +5,8 @@ ghost use Rattle.wt_text.specs.Lines.{lines};
 ghost use Rattle.wt_text.specs.Readers.{whole_text, one_line};
 ghost use Rattle.wt_line.specs.Faults.{ReadsLine, ReadsText};
 ghost use Rattle.wt_pattern.specs.TileRows.{tile_rows};
-ghost use Rattle.wt_pattern.specs.PatternRows.{pattern_rows, pattern_part, side_word, shape_form};
-ghost use Rattle.wt_line.specs.Left.{ReadsRest, ReadsPlace};
+ghost use Rattle.wt_pattern.specs.PatternRows.{pattern_rows, pattern_part, shape_form};
+ghost use Rattle.wt_line.specs.Left.{ReadsPlace};
 
 use crate::Pattern;
 use crate::cells::{rows_at, stacked};
@@ -14,7 +14,7 @@ use crate::rows::tiles_at;
 use std::alloc::Global;
 use wt_grid::{MAX_SIDE, MAX_TILES};
 use wt_line::{
-    LineFault, Place, Rest, TextFault, What, line_end, next_line, next_token, number, placed,
+    LineFault, Place, Rest, TextFault, What, line_end, next_line, number_from_one, placed,
     text_end, word,
 };
 use wt_tile::TileList;
@@ -30,9 +30,9 @@ pub fn read_set(alloc: Global, bytes: &[u8], tiles: usize) -> Result<TileList, T
     Ok(list)
 }
 
-/// The rows of a pattern of this width and height, the top one first.
+/// The rows of a pattern of this width and height, the top one first, and the place behind them.
 #[tactic(auto, unfolding(wt_text::specs::Readers::seen_as))]
-fn pattern_rows_at(
+pub fn pattern_rows_at(
     alloc: Global,
     width: usize,
     height: usize,
@@ -59,27 +59,6 @@ pub fn read_pattern(alloc: Global, bytes: &[u8], w: usize, h: usize) -> Result<P
     Ok(pattern)
 }
 
-/// A width or a height, or what it is where it is over 4096.
-fn side_at(what: What, rest: Rest<'_>) -> Result<(Result<usize, What>, Rest<'_>), LineFault>
-    ensures read { ReadsRest (side_word what) result rest.entry }
-    ensures small { IfOk result (λ x. IfOk x.0 (λ n. (1 ≤ n) × (n ≤ MAX_SIDE))) }
-{
-    let Some((token, rest)) = next_token(rest) else {
-        return Err(LineFault::Wrong);
-    };
-    let Some(value) = number(token) else {
-        return Err(LineFault::Wrong);
-    };
-    if value == 0 {
-        return Err(LineFault::Wrong);
-    }
-    if value <= MAX_SIDE as u64 {
-        Ok((Ok(value as usize), rest))
-    } else {
-        Ok((Err(what), rest))
-    }
-}
-
 #[tactic(auto, unfolding(wt_text::specs::Readers::whole, wt_text::specs::Readers::both, wt_text::specs::Readers::value_behind))]
 fn shape_of(line: &[u8]) -> Result<(usize, usize), LineFault>
     ensures read { ReadsLine (λ x. x) result (shape_form (tokens line.now)) }
@@ -87,10 +66,10 @@ fn shape_of(line: &[u8]) -> Result<(usize, usize), LineFault>
     ensures high { IfOk result (λ x. (1 ≤ x.1) × (x.1 ≤ MAX_SIDE)) }
 {
     let rest = word("pattern", Rest::new(line))?;
-    let (width, rest) = side_at(What::Width, rest)?;
-    let (height, rest) = side_at(What::Height, rest)?;
+    let (width, rest) = number_from_one(MAX_SIDE as u32, What::Width, rest)?;
+    let (height, rest) = number_from_one(MAX_SIDE as u32, What::Height, rest)?;
     line_end(rest)?;
-    Ok((width?, height?))
+    Ok((width? as usize, height? as usize))
 }
 
 #[tactic(auto, unfolding(wt_text::specs::Readers::one_line))]

@@ -1,8 +1,11 @@
-// The size of a window.
+// The size of a window, and its limit.
 ghost use Rattle.std.specs.Prelude.{◌≡◌, ◌≤◌};
 ghost use Rattle.wt_pattern.specs.Windows.{window_size};
 
 use wt_tile::Axis;
+
+/// The greatest number of cells of a window: one of radius 4 has 10 lines of 9 cells.
+pub const MAX_CELLS: usize = 90;
 
 /// Width and height of the window of a domino along the axis, with this radius of at most 4: the two cells
 /// of the domino with that many lines on each side. Takes no memory.

@@ -4,7 +4,7 @@ use Rattle.wt_text.specs.Words.{tokens}
 use Rattle.wt_text.specs.Readers.{whole, mapped}
 use Rattle.wt_line.specs.Given.{left}
 use Rattle.wt_pattern.proofs.CellTurns.{cells_left, goes_on, ends, is_done}
-use Rattle.wt_pattern.proofs.Ends.{goes_on_is_wrong}
+use Rattle.wt_line.proofs.Ended.{goes_on_is_wrong}
 use Rattle.wt_pattern.proofs.cells.cells_row.Goals as goal
 
 pub returns-in_err-cell : goal.returns-in_err-cell

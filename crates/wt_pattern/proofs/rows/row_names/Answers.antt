@@ -3,7 +3,7 @@ use Rattle.std.proofs.lemmas.Result.{err_from_is_err_and}
 use Rattle.wt_line.specs.Given.{left}
 use Rattle.wt_text.specs.Readers.{whole}
 use Rattle.wt_pattern.specs.Numbered.{row_words}
-use Rattle.wt_pattern.proofs.Ends.{goes_on_is_wrong}
+use Rattle.wt_line.proofs.Ended.{goes_on_is_wrong}
 use Rattle.wt_pattern.proofs.rows.row_names.Goals as goal
 
 pub returns-in_err-line_end-clause-read : goal.returns-in_err-line_end-clause-read
