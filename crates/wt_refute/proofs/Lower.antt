@@ -4,7 +4,7 @@ use Rattle.std.specs.List.{list_any}
 use Rattle.wt_grid.specs.Axes.{axis_number, same_axis}
 use Rattle.wt_grid.specs.declared.axis.Axis.TheVariants.{One, Two}
 use Rattle.wt_grid.specs.declared.axis.Axis.{Axis}
-use Rattle.std.proofs.lemmas.Bool.{and_parts, ltb-true, eqb-true}
+use Rattle.std.proofs.lemmas.Bool.{and_parts, or_cases, ltb-true, eqb-true}
 use Rattle.std.proofs.lemmas.Bool.Decides.{nat_tests}
 use Rattle.wt_grid.specs.First.{or_else, first_from}
 use Rattle.wt_grid.specs.Pairs.{pair_before}
@@ -17,13 +17,9 @@ use Rattle.wt_refute.specs.Standard.{citation_at, first_citation}
 abbrev pub is_lower : ℕ → Refuted → Bool
 is_lower radius entry = nat_lt entry.radius radius
 
-either : (x y : Bool) → (x || y) ≡ true → (x ≡ true) ⊎ (y ≡ true)
-either true y e = inl refl
-either false y e = inr e
-
 -- an entry's radius is at most that of the next
 onward : (x y : Refuted) → entries_follow x y ≡ true → x.radius ≤ y.radius
-onward x y e = elim (either (nat_lt x.radius y.radius) (nat_eq x.radius y.radius && (nat_lt (axis_number x.axis) (axis_number y.axis) || (nat_eq (axis_number x.axis) (axis_number y.axis) && pair_before y.a y.b (x.a, x.b)))) e) [
+onward x y e = elim (or_cases (nat_lt x.radius y.radius) (nat_eq x.radius y.radius && (nat_lt (axis_number x.axis) (axis_number y.axis) || (nat_eq (axis_number x.axis) (axis_number y.axis) && pair_before y.a y.b (x.a, x.b)))) e) [
   | inl less ↦ let l = ltb-true x.radius y.radius less in omega arith
   | inr rest ↦
       let p = and_parts (nat_eq x.radius y.radius) (nat_lt (axis_number x.axis) (axis_number y.axis) || (nat_eq (axis_number x.axis) (axis_number y.axis) && pair_before y.a y.b (x.a, x.b))) rest in

@@ -1,13 +1,12 @@
 //! Standard trees, built.
-ghost use Rattle.std.specs.Prelude.{◌≡◌, ◌+◌, ◌^◌, ◌<◌, ◌≤◌, length, IfOk, IsErrOf, None, true};
+ghost use Rattle.std.specs.Prelude.{◌≡◌, ◌^◌, ◌<◌, ◌≤◌, length, IfOk, IsErrOf, true};
 ghost use Rattle.wt_tile.specs.Matching.{matches};
-ghost use Rattle.wt_pattern.specs.Windows.{IsEmptyWindow};
 ghost use Rattle.wt_refute.specs.Refutation.{node_count, branch, no_more};
 ghost use Rattle.wt_refute.specs.View.{refutation};
 ghost use Rattle.wt_refute.specs.Placed.{placed};
 ghost use Rattle.wt_refute.specs.Fitted.{AreCounted};
 ghost use Rattle.wt_refute.specs.Entries.{ascends};
-ghost use Rattle.wt_refute.specs.Refutes.{tree_fault};
+ghost use Rattle.wt_refute.specs.Built.{IsGrown, RefutesEmpty, standard_nodes};
 ghost use Rattle.wt_refute.specs.Standard.{tree_within, standard_tree};
 
 use crate::check::{free_cells, place_pair};
@@ -17,7 +16,7 @@ use crate::{Child, Refuted, Tree};
 use sqlite_items::Items;
 use std::alloc::Global;
 use wt_mask::{Sides, next_bit};
-use wt_pattern::window_shape;
+use wt_pattern::{MAX_CELLS, window_shape};
 use wt_tile::{Axis, SetRef};
 
 /// Why no tree was built.
@@ -52,13 +51,12 @@ fn grow(
 ) -> Result<(Tree, u64), BuildEnd>
     requires wide { 0 < shape.0 }
     requires small { shape.0 < 2 ^ 32 }
-    requires few_cells { length cells.old ≤ 90 }
+    requires few_cells { length cells.old ≤ MAX_CELLS }
     requires radius { radius ≤ 4 }
     requires in_order { ascends known.now ≡ true }
     requires counted { AreCounted sides.now.tiles.now (placed shape cells.old) counts.now }
     ensures same { cells.new ≡ cells.old }
-    ensures ok { IfOk result (λ r. (refutation r.0 ≡ tree_within sides.now.tiles.now radius known.now depth (placed shape cells.old))
-        × (r.1 + node_count (tree_within sides.now.tiles.now radius known.now depth (placed shape cells.old)) ≡ budget)) }
+    ensures ok { IfOk result (IsGrown (tree_within sides.now.tiles.now radius known.now depth (placed shape cells.old)) budget) }
     ensures spent { IsErrOf result BuildEnd.Spent → budget < node_count (tree_within sides.now.tiles.now radius known.now depth (placed shape cells.old)) }
 {
     if budget == 0 {
@@ -127,9 +125,9 @@ pub fn build_tree(
     requires radius { radius ≤ 4 }
     requires in_order { ascends known.now ≡ true }
     ensures tree { IfOk result (λ t. refutation t ≡ standard_tree set.entry.list.now.tiles axis a b radius known.now) }
-    ensures refutes { IfOk result (λ t. IsEmptyWindow set.entry.list.now.tiles axis a b radius → tree_fault set.entry.list.now.tiles axis a b radius known.now t ≡ None) }
-    ensures enough { IfOk result (λ t. node_count (standard_tree set.entry.list.now.tiles axis a b radius known.now) ≤ budget) }
-    ensures spent { IsErrOf result BuildEnd.Spent → budget < node_count (standard_tree set.entry.list.now.tiles axis a b radius known.now) }
+    ensures refutes { IfOk result (RefutesEmpty set.entry.list.now.tiles axis a b radius known.now) }
+    ensures enough { IfOk result (λ t. standard_nodes set.entry.list.now.tiles axis a b radius known.now ≤ budget) }
+    ensures spent { IsErrOf result BuildEnd.Spent → budget < standard_nodes set.entry.list.now.tiles axis a b radius known.now }
 {
     let sides = Sides::new(set.tiles());
     build_tree_in(alloc, &sides, axis, a, b, radius, known, budget)
@@ -152,9 +150,9 @@ pub fn build_tree_in(
     requires radius { radius ≤ 4 }
     requires in_order { ascends known.now ≡ true }
     ensures tree { IfOk result (λ t. refutation t ≡ standard_tree sides.now.tiles.now axis a b radius known.now) }
-    ensures refutes { IfOk result (λ t. IsEmptyWindow sides.now.tiles.now axis a b radius → tree_fault sides.now.tiles.now axis a b radius known.now t ≡ None) }
-    ensures enough { IfOk result (λ t. node_count (standard_tree sides.now.tiles.now axis a b radius known.now) ≤ budget) }
-    ensures spent { IsErrOf result BuildEnd.Spent → budget < node_count (standard_tree sides.now.tiles.now axis a b radius known.now) }
+    ensures refutes { IfOk result (RefutesEmpty sides.now.tiles.now axis a b radius known.now) }
+    ensures enough { IfOk result (λ t. standard_nodes sides.now.tiles.now axis a b radius known.now ≤ budget) }
+    ensures spent { IsErrOf result BuildEnd.Spent → budget < standard_nodes sides.now.tiles.now axis a b radius known.now }
 {
     let shape = window_shape(axis, radius);
     let mut all = free_cells();

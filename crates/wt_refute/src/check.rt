@@ -14,8 +14,9 @@ use crate::fitting::fit_mask;
 use crate::known::has_entry;
 use crate::window::{above, is_free, right_of, tile_in};
 use crate::{Child, Refuted, Tree};
+use wt_grid::MAX_TILES;
 use wt_mask::{Sides, next_bit};
-use wt_pattern::window_shape;
+use wt_pattern::{MAX_CELLS, window_shape};
 use wt_tile::{Axis, SetRef, Tile};
 
 /// The first wrong node of a tree in preorder, counted from 0 at the root, held at the last value of usize.
@@ -193,10 +194,10 @@ fn next_cell(axis: Axis, width: usize, cell: usize) -> usize
 }
 
 /// As many free cells as the greatest window has.
-pub fn free_cells() -> [Option<u16>; 90]
-    ensures { result ≡ replicate 90 None }
+pub fn free_cells() -> [Option<u16>; MAX_CELLS]
+    ensures { result ≡ replicate MAX_CELLS None }
 {
-    [None; 90]
+    [None; MAX_CELLS]
 }
 
 /// Judges a tree for the window of radius `radius` round a and b, b following a along the axis, with these
@@ -265,7 +266,7 @@ pub fn check_tile_tree(set: SetRef<'_>, tile: u16, radius: u8, tree: &Tree) -> R
 #[tactic(auto, unfolding(crate::specs::Refutes::tile_tree_fault))]
 fn check_tile(tiles: &[Tile], tile: u16, radius: u8, tree: &Tree) -> Result<(), TreeFault>
     requires radius { radius ≤ 4 }
-    requires few { length tiles.now ≤ 256 }
+    requires few { length tiles.now ≤ MAX_TILES }
     ensures { MatchResult result
         (λ _. tile_tree_fault tiles.now tile radius tree.now ≡ None)
         (λ fault. tile_tree_fault tiles.now tile radius tree.now ≡ Some fault.node) }

@@ -11,6 +11,7 @@ use crate::Refuted;
 use crate::check::is_cited;
 use crate::fitting::Counts;
 use crate::window::is_free;
+use wt_pattern::MAX_CELLS;
 use wt_tile::Axis;
 
 /// What may be cited at a cell, axis 1 before axis 2.
@@ -86,7 +87,7 @@ fn tighter(new: (u16, usize), held: Option<(u16, usize)>) -> (u16, usize)
 
 /// The free cell with the fewest fitting tiles, the least cell number first.
 pub fn tightest(shape: (usize, usize), cells: &[Option<u16>], counts: &Counts) -> Option<u16>
-    requires few_cells { length cells.now ≤ 90 }
+    requires few_cells { length cells.now ≤ MAX_CELLS }
     ensures { (ts : List Tile) → AreCounted ts (placed shape cells.now) counts.now → result ≡ spec.tightest ts (placed shape cells.now) }
 {
     let mut held = None;

@@ -8,9 +8,10 @@ ghost use Rattle.wt_refute.specs.Fitted.{joins, IsFitMask, IsCounted, AreCounted
 use crate::window::{above, below, is_free, left_of, right_of};
 use wt_lane::{and_into, count_ones};
 use wt_mask::{Sides, Way};
+use wt_pattern::MAX_CELLS;
 
 /// For each free cell of a window, how many tiles fit there.
-pub type Counts = [u32; 90];
+pub type Counts = [u32; MAX_CELLS];
 
 /// The tiles that may stand on a side of what is placed: all, where nothing is.
 fn joined(sides: &Sides<'_>, way: Way, tile: Option<u16>) -> [u64; 4]
@@ -60,7 +61,7 @@ fn renew(
 )
     requires wide { 0 < shape.0 }
     requires small { shape.0 < 2 ^ 32 }
-    requires few { length cells.now ≤ 90 }
+    requires few { length cells.now ≤ MAX_CELLS }
     ensures here { spec.is_free (spec.placed shape cells.now) cell ≡ true
         → IsCounted sides.now.tiles.now (spec.placed shape cells.now) counts.new cell }
     ensures kept { (d : ℕ) → IsCounted sides.now.tiles.now (spec.placed shape cells.now) counts.old d
@@ -86,7 +87,7 @@ fn renew_before(
 )
     requires wide { 0 < shape.0 }
     requires small { shape.0 < 2 ^ 32 }
-    requires few { length cells.now ≤ 90 }
+    requires few { length cells.now ≤ MAX_CELLS }
     ensures here { less ≤ cell → spec.is_free (spec.placed shape cells.now) (cell - less) ≡ true
         → IsCounted sides.now.tiles.now (spec.placed shape cells.now) counts.new (cell - less) }
     ensures kept { (d : ℕ) → IsCounted sides.now.tiles.now (spec.placed shape cells.now) counts.old d
@@ -101,10 +102,10 @@ fn renew_before(
 pub fn count_all(sides: &Sides<'_>, shape: (usize, usize), cells: &[Option<u16>]) -> Counts
     requires wide { 0 < shape.0 }
     requires small { shape.0 < 2 ^ 32 }
-    requires few { length cells.now ≤ 90 }
+    requires few { length cells.now ≤ MAX_CELLS }
     ensures { AreCounted sides.now.tiles.now (spec.placed shape cells.now) result }
 {
-    let mut counts = [0; 90];
+    let mut counts = [0; MAX_CELLS];
     for cell in 0..cells.len() {
         renew(sides, shape, cells, &mut counts, cell);
     }
@@ -122,7 +123,7 @@ pub fn put(
 )
     requires wide { 0 < shape.0 }
     requires small { shape.0 < 2 ^ 32 }
-    requires few { length cells.old ≤ 90 }
+    requires few { length cells.old ≤ MAX_CELLS }
     requires within { at < length cells.old }
     requires counted { AreCounted sides.now.tiles.now (spec.placed shape cells.old) counts.old }
     ensures filled { cells.new ≡ slice_set cells.old at (Some tile) }
