@@ -81,15 +81,13 @@ take_next [] i lt = absurd (omega arith)
 take_next (x ∷ g) zero lt = refl
 take_next (x ∷ g) (suc i) lt = let e : suc i + 1 ≡ suc (i + 1) = omega arith in rw e (ap (λ (l : List ℕ). x ∷ l) (take_next g i (omega arith)))
 
-take_less : (f g : List ℕ) (i : ℕ) → take (i + 1) f ≡ take (i + 1) g → take i f ≡ take i g
-take_less f g i e = sym (take-take i (i + 1) f (omega arith)) ∙ ap (take i) e ∙ take-take i (i + 1) g (omega arith)
-
 -- lists that agree up to a place agree there
 pub last_same : (f g : List ℕ) (i : ℕ) → take (i + 1) f ≡ take (i + 1) g → get_or f i 0 ≡ get_or g i 0
 last_same f g i e = sym (get_or-take (i + 1) f i 0 (omega arith)) ∙ ap (λ (l : List ℕ). get_or l i 0) e ∙ get_or-take (i + 1) g i 0 (omega arith)
 
+-- lists that agree up to a place agree before it
 pub front_same : (f g : List ℕ) (i : ℕ) → take (i + 1) f ≡ take (i + 1) g → take i f ≡ take i g
-front_same = take_less
+front_same f g i e = sym (take-take i (i + 1) f (omega arith)) ∙ ap (take i) e ∙ take-take i (i + 1) g (omega arith)
 
 pub longer_same : (f g : List ℕ) (i t : ℕ) → i < length f → i < length g → take i g ≡ take i f → get_or g i 0 ≡ t → take (i + 1) g ≡ take (i + 1) (set f i t)
 longer_same f g i t lf lg e h = take_next g i lg ∙ ap (λ (l : List ℕ). l ++ get_or g i 0 ∷ []) e ∙ ap (λ (x : ℕ). take i f ++ x ∷ []) h ∙ sym (take_more_set f i t lf)

@@ -11,6 +11,7 @@ use Rattle.wt_mask.specs.declared.sides.Way.{Way}
 use Rattle.wt_mask.specs.declared.sides.Way.TheVariants.{Right, Left, Up, Down}
 use Rattle.wt_window.specs.declared.frame.Frame.{Frame}
 use Rattle.wt_window.specs.Trials.{Window, IsFilling, cells, cell_number, may_follow}
+use Rattle.wt_pattern.specs.declared.window.TheConstants.{MAX_CELLS}
 
 -- for each tile the mask of those that may stand on this side of it
 abbrev pub IsTable : List Tile → Way → List (List ℕ) → Type 0
@@ -30,8 +31,8 @@ beside w c Down = if nat_le w.width c then Some (c - w.width) else None
 -- a rectangle that 90 masks can hold
 pub record IsBox (width height : ℕ) : Type 0 where
   pub wide : 0 < width
-  pub low_width : width ≤ 90
-  pub few : width * height ≤ 90
+  pub low_width : width ≤ MAX_CELLS
+  pub few : width * height ≤ MAX_CELLS
 
 -- a window that 90 masks can hold, for two tiles of a list of this length
 pub record IsFrame (n : ℕ) (w : Window) : Type 0 where

@@ -9,6 +9,7 @@ use crate::frame::{Frame, beside};
 use crate::tables::Tables;
 use wt_lane::{and_into, any};
 use wt_mask::{Way, join_into};
+use wt_pattern::MAX_CELLS;
 
 /// What was left in a cell's mask: all that was there, fewer tiles, or none.
 #[derive(Clone, Copy, Debug, PartialEq, Eq)]
@@ -52,9 +53,9 @@ fn support(table: &[[u64; 4]], mask: &[u64; 4]) -> [u64; 4]
 }
 
 /// Keeps in a cell's mask the tiles that may stand beside one of another cell's.
-fn narrow(table: &[[u64; 4]], masks: &mut [[u64; 4]; 90], from: usize, to: usize) -> Change
-    requires from { from < 90 }
-    requires to { to < 90 }
+fn narrow(table: &[[u64; 4]], masks: &mut [[u64; 4]; MAX_CELLS], from: usize, to: usize) -> Change
+    requires from { from < MAX_CELLS }
+    requires to { to < MAX_CELLS }
     ensures others { (k : ℕ) → k ≢ to → mask_at masks.new k ≡ mask_at masks.old k }
     ensures kept { (t u : ℕ) → t < length table.now → mask_bit (mask_at masks.old from) t ≡ 1 → mask_bit (mask_at table.now t) u ≡ 1
         → mask_bit (mask_at masks.old to) u ≡ 1 → mask_bit (mask_at masks.new to) u ≡ 1 }
@@ -77,7 +78,7 @@ fn narrow(table: &[[u64; 4]], masks: &mut [[u64; 4]; 90], from: usize, to: usize
 fn carry(
     tables: &Tables<'_>,
     frame: &Frame,
-    masks: &mut [[u64; 4]; 90],
+    masks: &mut [[u64; 4]; MAX_CELLS],
     cell: usize,
     way: Way,
 ) -> Change
@@ -99,7 +100,7 @@ fn carry(
 fn spread(
     tables: &Tables<'_>,
     frame: &Frame,
-    masks: &mut [[u64; 4]; 90],
+    masks: &mut [[u64; 4]; MAX_CELLS],
     cell: usize,
 ) -> Option<u128>
     requires frame { IsBox frame.now.width frame.now.height }
@@ -127,7 +128,7 @@ fn spread(
 pub fn propagate(
     tables: &Tables<'_>,
     frame: &Frame,
-    masks: &mut [[u64; 4]; 90],
+    masks: &mut [[u64; 4]; MAX_CELLS],
     changed: u128,
 ) -> bool
     requires frame { IsBox frame.now.width frame.now.height }

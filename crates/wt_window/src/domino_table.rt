@@ -10,7 +10,7 @@ use crate::tables::Tables;
 use std::alloc::Global;
 use std::marker::Model;
 use wt_mask::{has_bit, next_bit, set_bit};
-use wt_pattern::window_shape;
+use wt_pattern::{MAX_CELLS, window_shape};
 use wt_tile::{Axis, SetRef, is_match};
 
 /// Why no table was made.
@@ -78,7 +78,7 @@ fn row(
     axis: Axis,
     a: u16,
     radius: u8,
-    unplaced: &[[u64; 4]; 90],
+    unplaced: &[[u64; 4]; MAX_CELLS],
     filled: &mut [u16],
     budget: u64,
 ) -> Result<[u64; 4], u16>
@@ -121,7 +121,7 @@ fn table_with(
     };
     let shape = window_shape(axis, radius);
     let unplaced = open_masks(tables, axis, radius);
-    let mut cells = [0u16; 90];
+    let mut cells = [0u16; MAX_CELLS];
     let filled = &mut cells[..shape.0 * shape.1];
     for a in 0..count {
         match row(tables, axis, a as u16, radius, &unplaced, filled, budget) {

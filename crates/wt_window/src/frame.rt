@@ -5,7 +5,7 @@ ghost use Rattle.wt_window.specs.Frames.{frame_window};
 ghost use Rattle.wt_window.specs.Frames as spec;
 
 use wt_mask::Way;
-use wt_pattern::window_shape;
+use wt_pattern::{MAX_CELLS, window_shape};
 use wt_tile::Axis;
 
 /// A window's width and height, and the numbers of the two cells where tile a and tile b stand. Cell (x, y)
@@ -45,7 +45,7 @@ pub fn frame_of(axis: Axis, a: u16, b: u16, radius: u8) -> Frame
 }
 
 fn next_cell(axis: Axis, width: usize, radius: usize) -> usize
-    requires small { width ≤ 90 }
+    requires small { width ≤ MAX_CELLS }
     requires low { radius ≤ 4 }
     ensures { result ≡ second_cell axis width radius }
 {
@@ -58,9 +58,9 @@ fn next_cell(axis: Axis, width: usize, radius: usize) -> usize
 /// The cell on a side of a cell, where the window has one.
 pub fn beside(frame: &Frame, cell: usize, way: Way) -> Option<usize>
     requires wide { 0 < frame.now.width }
-    requires low_width { frame.now.width ≤ 90 }
-    requires few { cells (frame_window frame.now) ≤ 90 }
-    requires low { cell < 90 }
+    requires low_width { frame.now.width ≤ MAX_CELLS }
+    requires few { cells (frame_window frame.now) ≤ MAX_CELLS }
+    requires low { cell < MAX_CELLS }
     ensures { result ≡ spec.beside (frame_window frame.now) cell way }
 {
     match way {

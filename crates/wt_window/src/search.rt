@@ -12,8 +12,10 @@ ghost use Rattle.wt_pattern.specs.Windows.{IsEmptyWindow};
 use crate::carry::propagate;
 use crate::frame::{Frame, frame_of};
 use crate::tables::Tables;
+use wt_grid::MAX_TILES;
 use wt_lane::and_into;
 use wt_mask::{next_bit, single};
+use wt_pattern::MAX_CELLS;
 use wt_tile::Axis;
 
 /// How a search ends: with a window, with none and so much left of the budget, or with the budget spent.
@@ -79,9 +81,9 @@ fn followers(tables: &Tables<'_>, frame: &Frame, filled: &[u16], at: usize) -> [
 }
 
 /// Leaves one tile alone in a cell's mask.
-fn place(masks: &mut [[u64; 4]; 90], at: usize, tile: usize)
-    requires at { at < 90 }
-    requires tile { tile < 256 }
+fn place(masks: &mut [[u64; 4]; MAX_CELLS], at: usize, tile: usize)
+    requires at { at < MAX_CELLS }
+    requires tile { tile < MAX_TILES }
     ensures same { (k : ℕ) → k ≢ at → mask_at masks.new k ≡ mask_at masks.old k }
     ensures alone { mask_bit (mask_at masks.new at) tile ≡ 1 }
 {
@@ -94,7 +96,7 @@ fn fill(
     frame: &Frame,
     filled: &mut [u16],
     at: usize,
-    masks: &mut [[u64; 4]; 90],
+    masks: &mut [[u64; 4]; MAX_CELLS],
     tile: usize,
 )
     requires frame { IsFrame (length tables.now.tiles.now) (frame_window frame.now) }
@@ -118,7 +120,7 @@ fn search(
     frame: &Frame,
     filled: &mut [u16],
     at: usize,
-    masks: &mut [[u64; 4]; 90],
+    masks: &mut [[u64; 4]; MAX_CELLS],
     changed: u128,
     budget: u64,
 ) -> Found
@@ -171,12 +173,12 @@ fn search(
 }
 
 /// The masks of a window before its two tiles are placed: those of all tiles, carried on.
-pub fn open_masks(tables: &Tables<'_>, axis: Axis, radius: u8) -> [[u64; 4]; 90]
+pub fn open_masks(tables: &Tables<'_>, axis: Axis, radius: u8) -> [[u64; 4]; MAX_CELLS]
     requires { radius ≤ 4 }
     ensures { HasAllFillings tables.now.tiles.now axis radius result }
 {
     let frame = frame_of(axis, 0, 0, radius);
-    let mut masks = [tables.all; 90];
+    let mut masks = [tables.all; MAX_CELLS];
     propagate(tables, &frame, &mut masks, u128::MAX);
     masks
 }
@@ -185,7 +187,7 @@ pub fn open_masks(tables: &Tables<'_>, axis: Axis, radius: u8) -> [[u64; 4]; 90]
 fn find_in(
     tables: &Tables<'_>,
     frame: &Frame,
-    unplaced: &[[u64; 4]; 90],
+    unplaced: &[[u64; 4]; MAX_CELLS],
     filled: &mut [u16],
     budget: u64,
 ) -> Found
@@ -213,7 +215,7 @@ pub fn find(
     a: u16,
     b: u16,
     radius: u8,
-    unplaced: &[[u64; 4]; 90],
+    unplaced: &[[u64; 4]; MAX_CELLS],
     filled: &mut [u16],
     budget: u64,
 ) -> Found

@@ -4,8 +4,10 @@ ghost use Rattle.wt_lane.specs.Masks.{mask_bit};
 ghost use Rattle.wt_mask.specs.Masks.{bit, mask_at};
 ghost use Rattle.wt_window.specs.Frames.{IsTable};
 ghost use Rattle.wt_mask.specs.declared.sides.Way.TheVariants.{Right, Left, Up, Down};
+ghost use Rattle.wt_grid.specs.declared.limits.TheConstants as limits;
 
 use std::alloc::{AllocError, Global};
+use wt_grid::MAX_TILES;
 use wt_mask::{Sides, Way};
 use wt_tile::Tile;
 
@@ -24,7 +26,7 @@ pub struct Tables<'a> {
     pub up: Vec<[u64; 4]>,
     /// For each tile the tiles that may stand below it.
     pub down: Vec<[u64; 4]>,
-    pub ghost few: { length tiles.now ≤ 256 },
+    pub ghost few: { length tiles.now ≤ limits.MAX_TILES },
     pub ghost whole: { (u : ℕ) → mask_bit all u ≡ bit (nat_lt u (length tiles.now)) },
     pub ghost right_table: { IsTable tiles.now Right right.items },
     pub ghost left_table: { IsTable tiles.now Left left.items },
@@ -34,7 +36,7 @@ pub struct Tables<'a> {
 
 /// For each tile the mask of the tiles that may stand on this side of it.
 fn table(alloc: Global, sides: &Sides<'_>, way: Way) -> Result<Vec<[u64; 4]>, AllocError>
-    requires { length sides.now.tiles.now ≤ 256 }
+    requires { length sides.now.tiles.now ≤ MAX_TILES }
     ensures { IfOk result (λ rows. IsTable sides.now.tiles.now way rows.items) }
 {
     let mut rows = Vec::with_capacity(alloc, sides.tiles.len())?;
@@ -47,7 +49,7 @@ fn table(alloc: Global, sides: &Sides<'_>, way: Way) -> Result<Vec<[u64; 4]>, Al
 impl<'a> Tables<'a> {
     /// The tables of a list of at most 256 tiles. Fails only for want of memory.
     pub fn new(alloc: Global, tiles: &'a [Tile]) -> Result<Tables<'a>, AllocError>
-        requires { length tiles.now ≤ 256 }
+        requires { length tiles.now ≤ MAX_TILES }
         ensures { IfOk result (λ made. made.tiles.now ≡ tiles.now) }
     {
         let sides = Sides::new(tiles);

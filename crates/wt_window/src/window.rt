@@ -6,7 +6,7 @@ ghost use Rattle.wt_window.specs.Outcomes.{MayAnswerWindow};
 use crate::search::{Found, find, open_masks};
 use crate::tables::Tables;
 use std::alloc::Global;
-use wt_pattern::{Pattern, window_shape};
+use wt_pattern::{MAX_CELLS, Pattern, window_shape};
 use wt_tile::{Axis, SetRef};
 
 /// Why no window is known.
@@ -37,7 +37,7 @@ fn least_window(
 {
     let shape = window_shape(axis, radius);
     let unplaced = open_masks(tables, axis, radius);
-    let mut cells = [0u16; 90];
+    let mut cells = [0u16; MAX_CELLS];
     let filled = &mut cells[..shape.0 * shape.1];
     match find(tables, axis, a, b, radius, &unplaced, filled, budget) {
         Found::Spent => Err(WindowEnd::Spent),
