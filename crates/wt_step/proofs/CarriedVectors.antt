@@ -15,7 +15,7 @@ use Rattle.wt_step.specs.declared.raw.RawStep.{RawStep}
 use Rattle.wt_step.specs.declared.raw.RawLink.{RawLink}
 use Rattle.wt_step.specs.declared.raw.RawLink.TheVariants.{Marker, Restrict}
 use Rattle.wt_step.specs.declared.link.LinkRef.{LinkRef}
-use Rattle.wt_step.specs.declared.link.LinkRef.TheVariants.{Marker as MarkerRef, Restrict as KeepingRef}
+use Rattle.wt_step.specs.declared.link.LinkRef.TheVariants as borrowed
 use Rattle.wt_step.specs.Links.{link_fault, fine_of}
 use Rattle.wt_step.specs.Views.{link_of}
 use Rattle.wt_step.specs.Coarse.{IsDesubstitution}
@@ -161,8 +161,8 @@ module _ (s : RawStep) (g : IsGoodStep s) (p : Grid) (v : IsPattern s.fine.tiles
 
 pub is_good : (link : LinkRef) → link_fault (link_of link) ≡ None
 unfolding link_fault
-is_good (MarkerRef s) = s.good
-is_good (KeepingRef s) = s.good
+is_good (borrowed.Marker s) = s.good
+is_good (borrowed.Restrict s) = s.good
 
 module _ (p : Grid) (dx dy : ℤ) (h : IsPeriod p dx dy) where
   pub value : (l : RawLink) → link_fault l ≡ None → IsPattern (fine_of l).tiles p → has_room l p dx dy ≡ true → (q : Grid) → IsGrid q → IsDesubstitution l p q → IsCountedBy l q dx dy (carried_vector l p dx dy)

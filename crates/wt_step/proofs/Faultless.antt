@@ -16,7 +16,8 @@ use Rattle.wt_grid.specs.Order.{first_in, agree}
 use Rattle.wt_grid.proofs.First.{neither, none_from, all_none}
 use Rattle.wt_step.specs.declared.raw.RawStep.{RawStep}
 use Rattle.wt_step.specs.declared.raw.StepFault.{StepFault}
-use Rattle.wt_step.specs.declared.raw.StepFault.TheVariants.{Radius, Fine, Coarse, Markers, Allowed, RefutedList, Images, Pair, Marker, Image as BadImage, MissingTile, MissingPair, Join}
+use Rattle.wt_step.specs.declared.raw.StepFault.TheVariants.{Radius, Fine, Coarse, Markers, Allowed, RefutedList, Images, Pair, Marker, MissingTile, MissingPair, Join}
+use Rattle.wt_step.specs.declared.raw.StepFault.TheVariants as fault
 use Rattle.wt_step.specs.Words.{same_image, allowed, allows, is_barred, is_block, image_at, images_match}
 use Rattle.wt_grid.specs.Pairs.{is_this_pair}
 use Rattle.wt_step.specs.Faults.{shape_fault, markers_fit, allowed_fit, refuted_fit, images_fit, is_named_well, trees_fault, pair_fault, row_fault, pairs_fault, is_marked_well, marker_fault_at, marker_fault, is_good_image, image_fault_at, image_fault, is_demanded, missing_tile_at, missing_tile, missing_pair_at, missing_pair, join_fault_at, join_row, join_fault, rules_fault, step_fault, IsShaped}
@@ -114,7 +115,7 @@ module _ (s : RawStep) where
         (pair_good axis (by_axis (λ x. pairs_fault s x ≡ None) p1.0 p2.0 axis) a b la lb) in
         let image = λ (i : ℕ) (li : i < length s.images).
         and_parts (is_good_image s (image_at s i)) (not (list_any (same_image (image_at s i)) (take i s.images)))
-        (holds (is_good_image s (image_at s i) && not (list_any (same_image (image_at s i)) (take i s.images))) (BadImage i)
+        (holds (is_good_image s (image_at s i) && not (list_any (same_image (image_at s i)) (take i s.images))) (fault.Image i)
         (none_from (image_fault_at s) 0 (length s.images) i im.0 (omega arith) (omega arith))) in
         record {
           shaped = shaped s n;
@@ -165,7 +166,7 @@ module _ (s : RawStep) (g : IsFaultless s) where
 
   no_image : image_fault s ≡ None
   no_image = all_none (image_fault_at s) 0 (length s.images) (λ i lo li.
-      fits (is_good_image s (image_at s i) && not (list_any (same_image (image_at s i)) (take i s.images))) (BadImage i)
+      fits (is_good_image s (image_at s i) && not (list_any (same_image (image_at s i)) (take i s.images))) (fault.Image i)
       (rw (g.images i (omega arith), g.distinct i (omega arith)) refl))
 
   no_tile : missing_tile s ≡ None

@@ -13,7 +13,8 @@ use Rattle.wt_refute.specs.declared.tree.Refuted.{Refuted}
 use Rattle.wt_refute.specs.Refutes.{tree_fault}
 use Rattle.wt_step.specs.declared.raw.RawStep.{RawStep}
 use Rattle.wt_step.specs.declared.raw.StepFault.{StepFault}
-use Rattle.wt_step.specs.declared.raw.StepFault.TheVariants.{Radius, Fine, Coarse, Markers, Allowed, RefutedList, Images, Pair, Node, Marker, Image as BadImage, MissingTile, MissingPair, Join}
+use Rattle.wt_step.specs.declared.raw.StepFault.TheVariants.{Radius, Fine, Coarse, Markers, Allowed, RefutedList, Images, Pair, Node, Marker, MissingTile, MissingPair, Join}
+use Rattle.wt_step.specs.declared.raw.StepFault.TheVariants as fault
 use Rattle.wt_step.specs.Words.{entry_fits, image_fits, same_image, allowed, allows, is_marker, is_barred, entry_at, times, is_block, demands, image_at, images_match}
 use Rattle.wt_refute.specs.Entries.{entries_follow}
 use Rattle.wt_grid.specs.Pairs.{pairs_follow, pair_fits}
@@ -110,7 +111,7 @@ is_good_image s (Double a b) = allows s s.axis a b && is_block s a b
 
 -- image i is neither of these, or it came before
 abbrev pub image_fault_at : RawStep → ℕ → Option StepFault
-image_fault_at s i = unless (is_good_image s (image_at s i) && not (list_any (same_image (image_at s i)) (take i s.images))) (BadImage i)
+image_fault_at s i = unless (is_good_image s (image_at s i) && not (list_any (same_image (image_at s i)) (take i s.images))) (fault.Image i)
 
 -- the first such image
 abbrev pub image_fault : RawStep → Option StepFault

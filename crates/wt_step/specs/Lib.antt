@@ -10,3 +10,4 @@ pub mod Views
 pub mod Meaning
 pub mod Cores
 pub mod Carried
+pub mod Limits

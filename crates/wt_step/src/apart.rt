@@ -17,6 +17,7 @@ use crate::cells::coarse_cells;
 use crate::index::{Index, index_images};
 use crate::{Coarse, RawStep};
 use std::alloc::{AllocError, Global};
+use wt_grid::MAX_SIDE;
 use wt_pattern::Pattern;
 use wt_tile::{Axis, Side};
 
@@ -24,7 +25,7 @@ use wt_tile::{Axis, Side};
 pub fn core_lines(p: &Pattern, axis: Axis, radius: u8) -> usize
     ensures value { result ≡ along axis (core radius p.now) }
     ensures shape { IsShape p.now }
-    ensures small { result ≤ 4096 }
+    ensures small { result ≤ MAX_SIDE }
 {
     let border = usize::from(radius) + usize::from(radius);
     count_lines(p, axis).saturating_sub(border)
@@ -33,7 +34,7 @@ pub fn core_lines(p: &Pattern, axis: Axis, radius: u8) -> usize
 /// The cells of a line of a core.
 pub fn core_across(p: &Pattern, axis: Axis, radius: u8) -> usize
     ensures value { result ≡ across axis (core radius p.now) }
-    ensures small { result ≤ 4096 }
+    ensures small { result ≤ MAX_SIDE }
 {
     let border = usize::from(radius) + usize::from(radius);
     count_across(p, axis).saturating_sub(border)
@@ -75,7 +76,7 @@ fn core_blocks(
 ) -> Result<Vec<Block>, AllocError>
     requires { 3 ≤ core_length raw.now p.now }
     ensures some { IfOk result (λ blocks. 1 ≤ length blocks.items) }
-    ensures few { IfOk result (λ blocks. length blocks.items ≤ 4096) }
+    ensures few { IfOk result (λ blocks. length blocks.items ≤ MAX_SIDE) }
     ensures value { IfOk result (λ blocks. blocks.items ≡ block_words.core_blocks raw.now p.now low high) }
 {
     let lines = core_lines(p, raw.axis, raw.radius) as u16;
@@ -112,9 +113,9 @@ fn coarse_pattern(
 ) -> Result<Pattern, AllocError>
     requires good { IsGoodStep raw.now }
     requires some { 1 ≤ across }
-    requires few { across ≤ 4096 }
+    requires few { across ≤ MAX_SIDE }
     requires some_blocks { 1 ≤ length blocks.now }
-    requires few_blocks { length blocks.now ≤ 4096 }
+    requires few_blocks { length blocks.now ≤ MAX_SIDE }
     ensures { IfOk result (λ q. q ≡ coarse_grid raw.now p.now index.now.singles.items index.now.pairs.items blocks.now raw.now.axis across) }
 {
     let width = width_of(raw.axis, blocks.len(), across);

@@ -8,6 +8,7 @@ ghost use Rattle.wt_step.specs.Blocks as spec;
 use crate::RawStep;
 use crate::rules::{is_marker, joined};
 use std::alloc::{AllocError, Global};
+use wt_grid::MAX_SIDE;
 use wt_pattern::Pattern;
 use wt_tile::Axis;
 
@@ -25,7 +26,7 @@ pub fn count_lines(p: &Pattern, axis: Axis) -> usize
     ensures value { result ≡ along axis p.now }
     ensures shape { IsShape p.now }
     ensures some { 1 ≤ result }
-    ensures small { result ≤ 4096 }
+    ensures small { result ≤ MAX_SIDE }
 {
     match axis {
         Axis::One => p.width(),
@@ -37,7 +38,7 @@ pub fn count_lines(p: &Pattern, axis: Axis) -> usize
 pub fn count_across(p: &Pattern, axis: Axis) -> usize
     ensures value { result ≡ across axis p.now }
     ensures some { 1 ≤ result }
-    ensures small { result ≤ 4096 }
+    ensures small { result ≤ MAX_SIDE }
 {
     match axis {
         Axis::One => p.height(),

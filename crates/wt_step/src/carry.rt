@@ -14,6 +14,7 @@ ghost use Rattle.wt_step.specs.Carried as spec;
 use crate::apart::{core_across, core_lines, ends_at, one_if};
 use crate::blocks::{count_blocks, count_lines};
 use crate::{LinkRef, RawStep};
+use wt_grid::MAX_SIDE;
 use wt_pattern::Pattern;
 use wt_tile::Axis;
 
@@ -57,14 +58,14 @@ pub fn has_room(link: LinkRef<'_>, p: &Pattern, dx: i64, dy: i64) -> bool
 fn lines_of(p: &Pattern, axis: Axis, d: i64) -> u16
     requires { magnitude d ≤ along axis p.now }
     ensures value { result ≡ magnitude d }
-    ensures few { result ≤ 4096 }
+    ensures few { result ≤ MAX_SIDE }
 {
     d.unsigned_abs().min(count_lines(p, axis) as u64) as u16
 }
 
 /// How many blocks begin in the first lines of the cut core.
 fn blocks_begun(raw: &RawStep, p: &Pattern, lines: u16) -> u16
-    requires { lines ≤ 4096 }
+    requires { lines ≤ MAX_SIDE }
     ensures { result ≡ spec.blocks_begun raw.now p.now lines }
 {
     let from = one_if(ends_at(raw, p, 0));

@@ -7,6 +7,7 @@ ghost use Rattle.wt_step.specs.Blocks.{IsIndexed, note_single, note_pair};
 use crate::RawStep;
 use crate::rules::image_at;
 use std::alloc::{AllocError, Global};
+use wt_grid::MAX_TILES;
 use wt_morphism::Image;
 
 /// At tile a of `singles` the number of the image a, and at a * n + b of `pairs` that of a and b, for n tiles.
@@ -19,7 +20,7 @@ pub struct Index {
 }
 
 fn note_image(index: &mut Index, tiles: usize, image: Image, i: u16)
-    requires few { tiles ≤ 256 }
+    requires few { tiles ≤ MAX_TILES }
     requires fits { image_fits tiles image ≡ true }
     requires singles { length index.old.singles.items ≡ tiles }
     requires pairs { length index.old.pairs.items ≡ tiles * tiles }
@@ -37,7 +38,7 @@ fn note_image(index: &mut Index, tiles: usize, image: Image, i: u16)
 pub fn count_tiles(raw: &RawStep) -> usize
     requires { IsGoodStep raw.now }
     ensures value { result ≡ length raw.now.fine.tiles }
-    ensures few { result ≤ 256 }
+    ensures few { result ≤ MAX_TILES }
 {
     raw.fine.tiles.as_slice().len()
 }
@@ -46,7 +47,7 @@ pub fn count_tiles(raw: &RawStep) -> usize
 fn count_images(raw: &RawStep) -> u16
     requires { IsGoodStep raw.now }
     ensures value { result ≡ length raw.now.images }
-    ensures few { result ≤ 256 }
+    ensures few { result ≤ MAX_TILES }
 {
     raw.images.as_slice().len() as u16
 }

@@ -14,6 +14,7 @@ use crate::blocks::cell_at;
 use crate::cells::number_at;
 use crate::restrict::kept_at;
 use std::alloc::{AllocError, Global};
+use wt_grid::{MAX_SIDE, MAX_TILES};
 use wt_pattern::Pattern;
 use wt_tile::Axis;
 
@@ -21,7 +22,7 @@ use wt_tile::Axis;
 fn count_tiles(raw: &RawRestrict) -> usize
     requires { IsGoodRestrict raw.now }
     ensures value { result ≡ length raw.now.fine.tiles }
-    ensures few { result ≤ 256 }
+    ensures few { result ≤ MAX_TILES }
 {
     raw.fine.tiles.as_slice().len()
 }
@@ -30,7 +31,7 @@ fn count_tiles(raw: &RawRestrict) -> usize
 fn count_kept(raw: &RawRestrict) -> u16
     requires { IsGoodRestrict raw.now }
     ensures value { result ≡ length raw.now.kept }
-    ensures few { result ≤ 256 }
+    ensures few { result ≤ MAX_TILES }
 {
     raw.kept.as_slice().len() as u16
 }
@@ -98,9 +99,9 @@ fn kept_pattern(
     height: usize,
 ) -> Result<Pattern, AllocError>
     requires wide { 1 ≤ width }
-    requires narrow { width ≤ 4096 }
+    requires narrow { width ≤ MAX_SIDE }
     requires high { 1 ≤ height }
-    requires low { height ≤ 4096 }
+    requires low { height ≤ MAX_SIDE }
     ensures { IfOk result (λ q. q ≡ grid_of width height (spec.kept_tile raw.now p.now places.now)) }
 {
     let cells = kept_cells(alloc, raw, p, places, width, width * height)?;

@@ -8,7 +8,7 @@ ghost use Rattle.wt_step.specs.Restrict as spec;
 use crate::order::numbers_ascend;
 use crate::rules::agree;
 use crate::{Lost, RawRestrict, StepFault};
-use wt_grid::is_among;
+use wt_grid::{MAX_TILES, is_among};
 use wt_refute::check_tile_tree;
 use wt_tile::{Axis, SetRef, is_match, set_fault};
 
@@ -66,7 +66,7 @@ fn sorted_fault_at(raw: &RawRestrict, tile: u16) -> Option<StepFault>
 
 #[tactic(auto, using(wt_grid::proofs::First::first_more))]
 fn sorted_fault(raw: &RawRestrict) -> Option<StepFault>
-    requires { length raw.now.fine.tiles ≤ 256 }
+    requires { length raw.now.fine.tiles ≤ MAX_TILES }
     ensures { result ≡ spec.sorted_fault raw.now }
 {
     for tile in 0..raw.fine.tiles.as_slice().len() as u16 {
@@ -159,7 +159,7 @@ fn kept_join_at(raw: &RawRestrict, axis: Axis, i: u16, j: u16) -> Option<StepFau
 fn count_coarse(raw: &RawRestrict) -> u16
     requires { IsSorted raw.now }
     ensures value { result ≡ length raw.now.coarse.tiles }
-    ensures small { result ≤ 256 }
+    ensures small { result ≤ MAX_TILES }
 {
     SetRef::of(&raw.coarse).tiles().len() as u16
 }

@@ -9,6 +9,7 @@ ghost use Rattle.wt_step.specs.Faults as faults;
 
 use crate::order::{numbers_ascend, pairs_ascend};
 use crate::{RawStep, StepFault};
+use wt_grid::MAX_TILES;
 use wt_morphism::Image;
 use wt_refute::{Refuted, entry_leads};
 use wt_tile::{Axis, set_fault};
@@ -66,7 +67,7 @@ pub fn allowed(raw: &RawStep, axis: Axis) -> &[(u16, u16)]
 pub fn count_tiles(raw: &RawStep) -> u16
     requires { IsShaped raw.now }
     ensures value { result ≡ length raw.now.fine.tiles }
-    ensures small { result ≤ 256 }
+    ensures small { result ≤ MAX_TILES }
 {
     raw.fine.tiles.as_slice().len() as u16
 }

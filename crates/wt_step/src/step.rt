@@ -11,13 +11,14 @@ use crate::rules::{
 use crate::shape::{allowed, count_tiles, shape_fault};
 use crate::walk::pairs_fault;
 use crate::{RawStep, StepFault};
+use wt_grid::MAX_TILES;
 use wt_morphism::Image;
 use wt_tile::{Axis, is_match};
 
 fn count_coarse(raw: &RawStep) -> u16
     requires { IsShaped raw.now }
     ensures value { result ≡ length raw.now.coarse.tiles }
-    ensures small { result ≤ 256 }
+    ensures small { result ≤ MAX_TILES }
 {
     raw.coarse.tiles.as_slice().len() as u16
 }
