@@ -7,3 +7,4 @@ pub mod Chains
 pub mod Good
 pub mod Turns
 pub mod Looped
+pub mod Limits

@@ -60,3 +60,8 @@ set_behind (link ∷ links) = Some (last_set (coarse_of link) links)
 abbrev pub IsRenamed : List RawLink → List ℕ → Type 0
 IsRenamed [] renaming = ⊥
 IsRenamed (link ∷ links) renaming = renaming_fault (last_set (coarse_of link) links).tiles (fine_of link).tiles renaming ≡ None
+
+-- the first step, where there is one, takes apart this set
+abbrev pub BeginsWith : TileList → List RawLink → Type 0
+BeginsWith set [] = Unit {0}
+BeginsWith set (link ∷ links) = fine_of link ≡ set

@@ -7,10 +7,11 @@ use Rattle.std.specs.List.{range_with_len}
 use Rattle.wt_grid.specs.Widths.{Stage, width}
 use Rattle.wt_step.specs.declared.raw.RawLink.{RawLink}
 use Rattle.wt_chain.specs.Growth.{image_of, is_along, origin}
+use Rattle.wt_grid.specs.declared.limits.TheConstants.{MAX_TILES}
 
 -- the entries of 256 tiles
 abbrev pub entries_of : {A : Type 0} → (ℕ → A) → List A
-entries_of f = map f (range_with_len 0 256)
+entries_of f = map f (range_with_len 0 MAX_TILES)
 
 -- what the table says of tile t
 abbrev pub entry : List Bool → ℕ → Bool
@@ -44,7 +45,7 @@ renamed_table renaming rows = entries_of (origin_entry renaming rows)
 
 -- the table after n turns; before the first turn no tile is two long
 abbrev pub turns_table : Axis → List RawLink → List ℕ → ℕ → List Bool
-turns_table axis loop renaming zero = replicate 256 false
+turns_table axis loop renaming zero = replicate MAX_TILES false
 turns_table axis loop renaming (suc n) = renamed_table renaming (climb axis loop (turns_table axis loop renaming n))
 
 -- the table tells for n tiles whether these stages make them at least two wide

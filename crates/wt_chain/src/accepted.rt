@@ -50,7 +50,7 @@ impl Accepted {
     }
 
     /// A chain that is known to be good. Takes no memory.
-    pub(crate) fn of(raw: RawChain) -> Accepted
+    pub fn of(raw: RawChain) -> Accepted
         requires { spec.chain_fault raw ≡ None }
         ensures { result ≡ raw }
     {

@@ -8,6 +8,7 @@ ghost use Rattle.wt_chain.specs.Tables.{renamed_table, turns_table};
 ghost use Rattle.wt_chain.specs.Tables as tables;
 
 use crate::Refusal;
+use wt_grid::MAX_TILES;
 use wt_morphism::Image;
 use wt_step::RawLink;
 use wt_tile::{Axis, same_axis};
@@ -48,14 +49,14 @@ pub fn is_along(axis: Axis, link: &RawLink) -> bool
     }
 }
 
-fn entry(rows: &[bool; 256], t: u16) -> bool
+fn entry(rows: &[bool; MAX_TILES], t: u16) -> bool
     ensures { result ≡ tables.entry rows.now t }
 {
     let t = usize::from(t);
     t < 256 && rows[t]
 }
 
-fn grows(axis: Axis, link: &RawLink, rows: &[bool; 256], t: u16) -> bool
+fn grows(axis: Axis, link: &RawLink, rows: &[bool; MAX_TILES], t: u16) -> bool
     ensures { result ≡ tables.grows axis link.now rows.now t }
 {
     match image_of(link, t) {
@@ -64,10 +65,10 @@ fn grows(axis: Axis, link: &RawLink, rows: &[bool; 256], t: u16) -> bool
     }
 }
 
-fn next_table(axis: Axis, link: &RawLink, rows: &[bool; 256]) -> [bool; 256]
+fn next_table(axis: Axis, link: &RawLink, rows: &[bool; MAX_TILES]) -> [bool; MAX_TILES]
     ensures { result ≡ tables.next_table axis link.now rows.now }
 {
-    let mut next = [false; 256];
+    let mut next = [false; MAX_TILES];
     for t in 0..256u16 {
         next[usize::from(t)] = grows(axis, link, rows, t);
     }
@@ -75,7 +76,7 @@ fn next_table(axis: Axis, link: &RawLink, rows: &[bool; 256]) -> [bool; 256]
 }
 
 /// The table of the set behind these steps, from that of the set before them.
-fn climb(axis: Axis, links: &[RawLink], rows: &[bool; 256]) -> [bool; 256]
+fn climb(axis: Axis, links: &[RawLink], rows: &[bool; MAX_TILES]) -> [bool; MAX_TILES]
     ensures { result ≡ tables.climb axis links.now rows.now }
 {
     let mut table = *rows;
@@ -87,7 +88,7 @@ fn climb(axis: Axis, links: &[RawLink], rows: &[bool; 256]) -> [bool; 256]
 
 /// The tile that a renaming carries onto t, or 0 where none is.
 pub fn origin(renaming: &[u16], t: u16) -> u16
-    requires { length renaming.now ≤ 256 }
+    requires { length renaming.now ≤ MAX_TILES }
     ensures { result ≡ growth.origin renaming.now t }
 {
     for (i, partner) in renaming.iter().enumerate() {
@@ -99,29 +100,33 @@ pub fn origin(renaming: &[u16], t: u16) -> u16
 }
 
 /// For each tile the one that a renaming carries onto it.
-pub fn origins(renaming: &[u16]) -> [u16; 256]
-    requires { length renaming.now ≤ 256 }
+pub fn origins(renaming: &[u16]) -> [u16; MAX_TILES]
+    requires { length renaming.now ≤ MAX_TILES }
     ensures { result ≡ tables.entries_of (growth.origin renaming.now) }
 {
-    let mut origins = [0u16; 256];
+    let mut origins = [0u16; MAX_TILES];
     for t in 0..256u16 {
         origins[usize::from(t)] = origin(renaming, t);
     }
     origins
 }
 
-fn origin_entry(origins: &[u16; 256], rows: &[bool; 256], t: usize) -> bool
-    requires inside { t < 256 }
+fn origin_entry(origins: &[u16; MAX_TILES], rows: &[bool; MAX_TILES], t: usize) -> bool
+    requires inside { t < MAX_TILES }
     ensures { result ≡ tables.entry rows.now (slice_index origins.now t) }
 {
     entry(rows, origins[t])
 }
 
-fn renamed(renaming: &[u16], origins: &[u16; 256], rows: &[bool; 256]) -> [bool; 256]
+fn renamed(
+    renaming: &[u16],
+    origins: &[u16; MAX_TILES],
+    rows: &[bool; MAX_TILES],
+) -> [bool; MAX_TILES]
     requires { origins.now ≡ tables.entries_of (growth.origin renaming.now) }
     ensures { result ≡ renamed_table renaming.now rows.now }
 {
-    let mut next = [false; 256];
+    let mut next = [false; MAX_TILES];
     for t in 0..256 {
         next[t] = origin_entry(origins, rows, t);
     }
@@ -129,12 +134,12 @@ fn renamed(renaming: &[u16], origins: &[u16; 256], rows: &[bool; 256]) -> [bool;
 }
 
 /// The table of the loop's first set after so many turns.
-fn turned(axis: Axis, links: &[RawLink], renaming: &[u16], turns: u32) -> [bool; 256]
-    requires { length renaming.now ≤ 256 }
+fn turned(axis: Axis, links: &[RawLink], renaming: &[u16], turns: u32) -> [bool; MAX_TILES]
+    requires { length renaming.now ≤ MAX_TILES }
     ensures { result ≡ turns_table axis links.now renaming.now turns }
 {
     let origins = origins(renaming);
-    let mut table = [false; 256];
+    let mut table = [false; MAX_TILES];
     for turn in 0..turns {
         let climbed = climb(axis, links, &table);
         table = renamed(renaming, &origins, &climbed);
@@ -142,7 +147,7 @@ fn turned(axis: Axis, links: &[RawLink], renaming: &[u16], turns: u32) -> [bool;
     table
 }
 
-fn small_at(wide: &[bool; 256], high: &[bool; 256], t: u16) -> Option<Refusal>
+fn small_at(wide: &[bool; MAX_TILES], high: &[bool; MAX_TILES], t: u16) -> Option<Refusal>
     ensures { result ≡ faults.small_at wide.now high.now t }
 {
     if entry(wide, t) && entry(high, t) {
@@ -153,7 +158,7 @@ fn small_at(wide: &[bool; 256], high: &[bool; 256], t: u16) -> Option<Refusal>
 }
 
 #[tactic(auto, using(wt_grid::proofs::First::first_more))]
-fn first_small(wide: &[bool; 256], high: &[bool; 256], count: u16) -> Option<Refusal>
+fn first_small(wide: &[bool; MAX_TILES], high: &[bool; MAX_TILES], count: u16) -> Option<Refusal>
     ensures { result ≡ faults.first_small wide.now high.now count }
 {
     for t in 0..count {
@@ -170,7 +175,7 @@ fn first_small(wide: &[bool; 256], high: &[bool; 256], count: u16) -> Option<Ref
 pub fn growth_fault(links: &[RawLink], renaming: &[u16], turns: u32, count: u16) -> Option<Refusal>
     requires closed { IsClosedBy links.now renaming.now }
     requires counted { count ≡ first_count links.now }
-    requires few { length renaming.now ≤ 256 }
+    requires few { length renaming.now ≤ MAX_TILES }
     ensures { result ≡ faults.growth_fault links.now renaming.now turns count }
 {
     let few = turns.min(256);
@@ -183,9 +188,9 @@ fn next_turn(
     axis: Axis,
     links: &[RawLink],
     renaming: &[u16],
-    origins: &[u16; 256],
-    rows: &[bool; 256],
-) -> [bool; 256]
+    origins: &[u16; MAX_TILES],
+    rows: &[bool; MAX_TILES],
+) -> [bool; MAX_TILES]
     requires { origins.now ≡ tables.entries_of (growth.origin renaming.now) }
     ensures { result ≡ renamed_table renaming.now (tables.climb axis links.now rows.now) }
 {
@@ -197,8 +202,8 @@ fn fault_after(
     links: &[RawLink],
     renaming: &[u16],
     turns: u32,
-    wide: &[bool; 256],
-    high: &[bool; 256],
+    wide: &[bool; MAX_TILES],
+    high: &[bool; MAX_TILES],
     count: u16,
 ) -> Option<Refusal>
     requires closed { IsClosedBy links.now renaming.now }
@@ -215,8 +220,8 @@ fn enough_after(
     links: &[RawLink],
     renaming: &[u16],
     turn: u16,
-    wide: &[bool; 256],
-    high: &[bool; 256],
+    wide: &[bool; MAX_TILES],
+    high: &[bool; MAX_TILES],
     count: u16,
 ) -> Option<u32>
     requires closed { IsClosedBy links.now renaming.now }
@@ -238,12 +243,12 @@ fn enough_after(
 pub fn least_expansion(links: &[RawLink], renaming: &[u16], count: u16) -> Option<u32>
     requires closed { IsClosedBy links.now renaming.now }
     requires counted { count ≡ first_count links.now }
-    requires few { length renaming.now ≤ 256 }
+    requires few { length renaming.now ≤ MAX_TILES }
     ensures { result ≡ faults.least_expansion links.now renaming.now count }
 {
     let origins = origins(renaming);
-    let mut wide = [false; 256];
-    let mut high = [false; 256];
+    let mut wide = [false; MAX_TILES];
+    let mut high = [false; MAX_TILES];
     for turn in 0..count {
         wide = next_turn(Axis::One, links, renaming, &origins, &wide);
         high = next_turn(Axis::Two, links, renaming, &origins, &high);
