@@ -16,3 +16,4 @@ pub mod TreesAgain
 pub mod TreeLines
 pub mod Written
 pub mod Blocks
+pub mod WithinLimits

@@ -19,8 +19,9 @@ use Rattle.wt_text.specs.Spellings.{IsClean, AllFit, IsNotEmpty, number_spelling
 use Rattle.wt_text.proofs.Numbers.{number_found, number_again, decimal_clean}
 use Rattle.wt_text.proofs.Formats.{IsFormat, IsLine, bind_some, read_is, pair_ok, within_ok, within_again, number_format, both_format, behind_format, whole_line}
 use Rattle.wt_text.proofs.Last.{IsLast, both_last, behind_last, whole_last, word_format, numbers_last}
-use Rattle.wt_line.specs.Limits.{small}
-use Rattle.wt_cert.specs.LineForms.{radius, axis, side, alone_form, count_form, numbers_form, version_form, step_count, steps_form, marker_head, restrict_head, Head, kind_of_step, head_form, allowed_form, pair_form, may_cite, radius_in, refuted_form, lost_form, image_of, image_behind, image_in, image_form, end_form}
+use Rattle.wt_line.specs.Limits.{small, radius, number_from_one}
+use Rattle.wt_line.specs.Directions.{axis, side}
+use Rattle.wt_cert.specs.LineForms.{alone_form, count_form, numbers_form, version_form, steps_form, marker_head, restrict_head, Head, kind_of_step, head_form, allowed_form, pair_form, may_cite, radius_in, refuted_form, lost_form, image_of, image_behind, image_in, image_form, end_form}
 use Rattle.wt_cert.specs.Spelling.{count_tokens, numbers_tokens, version_word, axis_digit, side_word, pair_tokens, radius_tokens, image_tokens}
 use Rattle.wt_cert.specs.Fits.{IsSmall, AreWritableNumbers, IsWritablePair, IsWritableRadius, IsWritableImage}
 use Rattle.wt_cert.specs.Trees.{tree_spelling, IsWritableTree}
@@ -73,7 +74,7 @@ version_line = whole_line (λ x. tt) (behind_format (codes "certificate") (searc
 other : (n : ℕ) → 1 ≤ n → nat_eq n 0 ≡ false
 other n le = grind (arith, nat_tests)
 
-steps_format : IsFormat step_count number_spelling (λ n. (n ≤ 32) × (1 ≤ n))
+steps_format : IsFormat (number_from_one 32 Steps) number_spelling (λ n. (n ≤ 32) × (1 ≤ n))
 steps_format = record {
   found = found;
   again = λ n rest fits. let le : n ≤ 32 = fits.0 in rw (number_again n (omega (arith, le)), other n fits.1, within_again 32 Steps n le) refl;
@@ -91,7 +92,7 @@ steps_format = record {
         let some : 1 ≤ x = omega (arith, eqb-false n 0 h, w.0) in
         (cc, (w.1, some))
 
-    found : (ts : List (List ℕ)) (x : ℕ) (rest : List (List ℕ)) → step_count ts ≡ Some (Ok x, rest) → (ts ≡ number_spelling x ++ rest) × ((x ≤ 32) × (1 ≤ x))
+    found : (ts : List (List ℕ)) (x : ℕ) (rest : List (List ℕ)) → number_from_one 32 Steps ts ≡ Some (Ok x, rest) → (ts ≡ number_spelling x ++ rest) × ((x ≤ 32) × (1 ≤ x))
     found [] x rest e = absurd cc
     found (t ∷ ts) x rest e = let n = bind_some (number t) _ (Ok x, rest) e in go t ts n.0 x rest (nat_eq n.0 0) n.1 refl n.2
 

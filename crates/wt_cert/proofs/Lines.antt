@@ -1,6 +1,6 @@
 -- Lines that go on where they were to end.
 use Rattle.std.proofs.Common.{◌≡◌, ℕ, List, [], ◌∷◌, Some, Result, Ok, Err, true, codes, refl}
-use Rattle.wt_pattern.proofs.Ends.{goes_on_is_wrong}
+use Rattle.wt_line.proofs.Ended.{goes_on_is_wrong}
 use Rattle.wt_grid.specs.declared.axis.Axis.{Axis}
 use Rattle.std.specs.Fmt.{decimal}
 use Rattle.wt_line.specs.declared.faults.What.{What}
@@ -11,7 +11,8 @@ use Rattle.wt_chain.specs.declared.raw.Version.{Version}
 use Rattle.wt_refute.specs.Refutation.{Refutation}
 use Rattle.wt_text.specs.Readers.{after, pair, judged, value_behind, both, whole}
 use Rattle.wt_line.specs.Limits.{small}
-use Rattle.wt_cert.specs.LineForms.{axis, Head, kind_of_step, head_form, may_cite, radius_in, refuted_form, lost_form}
+use Rattle.wt_line.specs.Directions.{axis}
+use Rattle.wt_cert.specs.LineForms.{Head, kind_of_step, head_form, may_cite, radius_in, refuted_form, lost_form}
 use Rattle.wt_cert.specs.Trees.{tree_to_end}
 
 pub head_fails : (e : LineFault) (version : Version) (k : ℕ) (r : Result Head What) (ts r1 r2 r3 : List (List ℕ)) → after (codes "step") ts ≡ Some r1 → after (decimal k) r1 ≡ Some r2 → kind_of_step version r2 ≡ Some (r, r3) → IsWrong e r3

@@ -9,8 +9,8 @@ use Rattle.wt_text.specs.Readers.{LineFault, wrong, past}
 use Rattle.wt_text.proofs.Numbers.{decimal_clean, if_some, is_decimal_again}
 use Rattle.wt_text.proofs.Formats.{clean_both, read_is}
 use Rattle.wt_text.proofs.Last.{IsLast}
-use Rattle.wt_refute.specs.Refutation.{Refutation, Branches, branch, cite, no_more, more, node_count}
-use Rattle.wt_cert.specs.Trees.{branch_count, axis_word, tree_spelling, branches_spelling, is_forest, is_tree, tree_in, found_tree, tree_to_end, IsWritableTree, AreWritableBranches}
+use Rattle.wt_refute.specs.Refutation.{Refutation, Branches, branch, cite, no_more, more, node_count, branch_count}
+use Rattle.wt_cert.specs.Trees.{axis_word, tree_spelling, branches_spelling, is_forest, is_tree, tree_in, found_tree, tree_to_end, IsWritableTree, AreWritableBranches}
 use Rattle.wt_cert.proofs.TreesFound.{tree_found}
 use Rattle.wt_cert.proofs.TreesAgain.{tree_again, forest_form, children_again, cites_again}
 

@@ -10,8 +10,8 @@ use Rattle.wt_line.specs.declared.faults.What.{What}
 use Rattle.wt_line.specs.declared.faults.What.TheVariants.{Number}
 use Rattle.wt_text.specs.Words.{number, is_decimal}
 use Rattle.wt_text.proofs.Numbers.{number_again, is_decimal_again, decimal_digits}
-use Rattle.wt_refute.specs.Refutation.{Refutation, Branches, branch, cite, no_more, more, node_count}
-use Rattle.wt_cert.specs.Trees.{branch_count, axis_word, tree_spelling, branches_spelling, children, cites, ending, is_forest, limited, cell_in, branches_in, tree_in, IsWritableTree, AreWritableBranches}
+use Rattle.wt_refute.specs.Refutation.{Refutation, Branches, branch, cite, no_more, more, node_count, branch_count}
+use Rattle.wt_cert.specs.Trees.{axis_word, tree_spelling, branches_spelling, children, cites, ending, is_forest, limited, cell_in, branches_in, tree_in, IsWritableTree, AreWritableBranches}
 
 pub small_again : (what : What) (n : ℕ) → n ≤ 65535 → limited 65535 what (number (decimal n)) ≡ Ok n
 small_again what n le = rw (number_again n (omega arith), le-leb n 65535 le) refl

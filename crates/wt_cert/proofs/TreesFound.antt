@@ -11,8 +11,8 @@ use Rattle.wt_text.specs.Words.{number}
 use Rattle.wt_text.specs.Readers.{LineFault, past}
 use Rattle.wt_text.proofs.Numbers.{number_found, some_is}
 use Rattle.wt_text.proofs.Texts.{then_ok, ok_is, ok_pair}
-use Rattle.wt_refute.specs.Refutation.{Refutation, Branches, branch, cite, no_more, more, node_count}
-use Rattle.wt_cert.specs.Trees.{branch_count, axis_word, tree_spelling, branches_spelling, Ending, children, cites, ending, limited, cell_in, ending_in, branches_in, grown, tree_in, IsWritableTree, AreWritableBranches}
+use Rattle.wt_refute.specs.Refutation.{Refutation, Branches, branch, cite, no_more, more, node_count, branch_count}
+use Rattle.wt_cert.specs.Trees.{axis_word, tree_spelling, branches_spelling, Ending, children, cites, ending, limited, cell_in, ending_in, branches_in, grown, tree_in, IsWritableTree, AreWritableBranches}
 
 pub limited_ok : (most : ℕ) (what : What) (r : Option ℕ) (x : ℕ) → limited most what r ≡ Ok x → (r ≡ Some x) × (x ≤ most)
 limited_ok most what None x e = absurd cc

@@ -8,10 +8,10 @@ use Rattle.wt_refute.specs.declared.tree.Tree as tree
 use Rattle.wt_refute.specs.declared.tree.Tree.TheVariants.{rolls-Branch, rolls-Cite}
 use Rattle.wt_refute.specs.declared.tree.Tree.TheOpen.{Tree-F}
 use Rattle.wt_refute.specs.declared.tree.Child.{Child}
-use Rattle.wt_refute.specs.Refutation.{Refutation, Branches, branch, cite, no_more, more}
+use Rattle.wt_refute.specs.Refutation.{Refutation, Branches, branch, cite, no_more, more, branch_count}
 use Rattle.wt_refute.specs.View.{refutation, branches_of, child_view, children_view, tree_step, child_step}
 use Rattle.wt_refute.proofs.Children.{view_more}
-use Rattle.wt_cert.specs.Trees.{tree_spelling, branches_spelling, branch_count, axis_word}
+use Rattle.wt_cert.specs.Trees.{tree_spelling, branches_spelling, axis_word}
 use Rattle.wt_text.specs.Words.{spaced}
 use Rattle.wt_text.specs.Lines.{Line, line_of, bytes_of}
 use Rattle.wt_write.specs.Behind.{behind_spaces}

@@ -20,6 +20,7 @@ use Rattle.wt_pattern.specs.TileRows.{IsListed}
 use Rattle.wt_cert.specs.LineForms.{may_cite}
 use Rattle.wt_cert.specs.Trees.{IsWritableTree}
 use Rattle.wt_cert.specs.Parts.{with_refuted, with_lost, with_link}
+use Rattle.wt_grid.specs.declared.limits.TheConstants.{MAX_TILES}
 
 -- a number that has no limit of its own
 abbrev pub IsSmall : ℕ → Type 0
@@ -27,12 +28,12 @@ IsSmall n = n ≤ 65535
 
 -- at most 256 tiles, whose colours are numbered by first coming and named
 pub record AreWritableTiles (list : TileList) : Type 0 where
-  pub few : length list.tiles ≤ 256
+  pub few : length list.tiles ≤ MAX_TILES
   pub listed : IsListed list
 
 -- at most 256 numbers within the limit
 abbrev pub AreWritableNumbers : List ℕ → Type 0
-AreWritableNumbers ns = (length ns ≤ 256) × AllFit IsSmall ns
+AreWritableNumbers ns = (length ns ≤ MAX_TILES) × AllFit IsSmall ns
 
 -- both numbers of a pair are within the limit
 abbrev pub IsWritablePair : ℕ × ℕ → Type 0
@@ -49,7 +50,7 @@ IsWritableImage (Double u v) = IsSmall u × IsSmall v
 
 -- at most 256 such images
 abbrev pub AreWritableImages : List Image → Type 0
-AreWritableImages xs = (length xs ≤ 256) × AllFit IsWritableImage xs
+AreWritableImages xs = (length xs ≤ MAX_TILES) × AllFit IsWritableImage xs
 
 -- in version one a refutation has the radius of its step
 abbrev pub IsWritableRadius : Version → ℕ → ℕ → Type 0
@@ -74,7 +75,7 @@ AreWritableRefutations version r nodes xs = (length xs ≤ 131072) × FitInTurn 
 
 -- at most 256 lost tiles, each with the nodes of those before it
 abbrev pub AreWritableLosses : ℕ → List Lost → Type 0
-AreWritableLosses nodes xs = (length xs ≤ 256) × FitInTurn IsWritableLoss with_lost nodes xs
+AreWritableLosses nodes xs = (length xs ≤ MAX_TILES) × FitInTurn IsWritableLoss with_lost nodes xs
 
 -- a marker step, where so many nodes came before
 pub record IsWritableMarker (version : Version) (nodes : ℕ) (s : RawStep) : Type 0 where

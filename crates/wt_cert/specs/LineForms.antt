@@ -1,34 +1,21 @@
 -- The lines of a certificate, each by its form and its limits, in the grammar's order. A row of names is in wt_pattern, a tree in Trees.
-use Rattle.std.specs.Prelude.{ℕ, Bool, true, false, List, [], ◌∷◌, Option, None, Some, Result, codes, nat_eq, if◌then◌else◌}
+use Rattle.std.specs.Prelude.{ℕ, Bool, true, false, List, [], ◌∷◌, Option, None, Some, Result, codes}
 use Rattle.wt_grid.specs.declared.image.Image.TheVariants.{One as Single, Two as Double}
 use Rattle.wt_grid.specs.declared.image.Image.{Image}
-use Rattle.wt_grid.specs.declared.axis.Side.TheVariants.{After, Before}
 use Rattle.wt_grid.specs.declared.axis.Side.{Side}
-use Rattle.wt_grid.specs.declared.axis.Axis.TheVariants.{One, Two}
 use Rattle.wt_grid.specs.declared.axis.Axis.{Axis}
 use Rattle.std.specs.Fmt.{decimal}
 use Rattle.wt_line.specs.declared.faults.What.{What}
-use Rattle.wt_line.specs.Limits.{small}
+use Rattle.wt_line.specs.Limits.{small, radius, number_from_one}
+use Rattle.wt_line.specs.Directions.{axis, side}
 use Rattle.wt_line.specs.declared.limits.TheConstants.{MOST}
-use Rattle.wt_line.specs.declared.faults.What.TheVariants.{Steps, Radius, Tiles, Pairs, Expansion, Number}
+use Rattle.wt_line.specs.declared.faults.What.TheVariants.{Steps, Tiles, Pairs, Expansion, Number}
 use Rattle.wt_refute.specs.Refutation.{Refutation}
 use Rattle.wt_chain.specs.declared.raw.Version.{Version}
 use Rattle.wt_chain.specs.declared.raw.Version.TheVariants as versions
-use Rattle.wt_text.specs.Words.{number}
-use Rattle.wt_text.specs.Readers.{◌>>=◌, pair, mapped, LineFault, within, number_to, either_word, given, seen_value, Either, first, either_behind, value_behind, both, whole, counted_numbers}
+use Rattle.wt_text.specs.Readers.{◌>>=◌, pair, mapped, LineFault, number_to, either_word, given, seen_value, Either, first, either_behind, value_behind, both, whole, counted_numbers}
 use Rattle.wt_cert.specs.Trees.{tree_to_end}
-
--- a radius, at most 4
-abbrev pub radius : List (List ℕ) → Option (Result ℕ What × List (List ℕ))
-radius = number_to 4 Radius
-
--- 1 or 2 for an axis
-abbrev pub axis : List (List ℕ) → Option (Result Axis What × List (List ℕ))
-axis = either_word (codes "1") One (codes "2") Two
-
--- the side on which a marker stands
-abbrev pub side : List (List ℕ) → Option (Result Side What × List (List ℕ))
-side = either_word (codes "after") After (codes "before") Before
+use Rattle.wt_grid.specs.declared.limits.TheConstants.{MAX_TILES}
 
 -- a word, and no more
 unfoldable pub alone_form : List ℕ → List (List ℕ) → Result (Unit {0}) (LineFault What)
@@ -40,7 +27,7 @@ count_form w most what = whole (value_behind w (number_to most what))
 
 -- a word, a count, and so many numbers
 unfoldable pub numbers_form : List ℕ → List (List ℕ) → Result (List ℕ) (LineFault What)
-numbers_form w = whole (value_behind w (counted_numbers 256 Tiles MOST Number))
+numbers_form w = whole (value_behind w (counted_numbers MAX_TILES Tiles MOST Number))
 
 -- ---- certificate 1, or certificate 2
 
@@ -50,14 +37,9 @@ version_form = whole (value_behind (codes "certificate") (either_word (codes "1"
 
 -- ---- steps S, where S is at least 1
 
--- a number of steps from 1 on, at most 32
-abbrev pub step_count : List (List ℕ) → Option (Result ℕ What × List (List ℕ))
-step_count [] = None
-step_count (t ∷ ts) = number t >>= λ n. if nat_eq n 0 then None else Some (within 32 Steps n, ts)
-
 -- the line that says how many steps follow
 unfoldable pub steps_form : List (List ℕ) → Result ℕ (LineFault What)
-steps_form = whole (value_behind (codes "steps") step_count)
+steps_form = whole (value_behind (codes "steps") (number_from_one 32 Steps))
 
 -- ---- step k axis A side W radius R, or in version two step k restrict radius R
 

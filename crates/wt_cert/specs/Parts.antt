@@ -21,10 +21,11 @@ use Rattle.wt_text.specs.Readers.{TextFault, Either, first, second, one_line, bo
 use Rattle.wt_pattern.specs.TileRows.{no_state, tile_rows}
 use Rattle.wt_refute.specs.Made.{tree_of}
 use Rattle.wt_cert.specs.LineForms.{alone_form, count_form, numbers_form, version_form, steps_form, Head, head_form, allowed_form, pair_form, refuted_form, lost_form, image_form, end_form}
+use Rattle.wt_grid.specs.declared.limits.TheConstants.{MAX_TILES}
 
 -- fine n, or coarse n, and n rows of names
 unfoldable pub tiles_part : List ℕ → ℕ × List Line → Result (TileList × (ℕ × List Line)) (TextFault What)
-tiles_part w = part_behind (one_line (count_form w 256 Tiles)) tile_rows
+tiles_part w = part_behind (one_line (count_form w MAX_TILES Tiles)) tile_rows
 
 -- markers m t1 .. tm, or kept m t1 .. tm, or renaming m t1 .. tm
 unfoldable pub numbers_part : List ℕ → ℕ × List Line → Result (List ℕ × (ℕ × List Line)) (TextFault What)
@@ -68,11 +69,11 @@ with_lost nodes x = nodes + node_count (refutation x.tree)
 
 -- the list of a step's lost tiles, after trees of so many nodes
 unfoldable pub lost_part : ℕ → ℕ × List Line → Result (List Lost × (ℕ × List Line)) (TextFault What)
-lost_part nodes = counted_parts (one_line (count_form (codes "lost") 256 Tiles)) lost_row with_lost nodes
+lost_part nodes = counted_parts (one_line (count_form (codes "lost") MAX_TILES Tiles)) lost_row with_lost nodes
 
 -- images c, and c images
 unfoldable pub images_part : ℕ × List Line → Result (List Image × (ℕ × List Line)) (TextFault What)
-images_part = counted_parts (one_line (count_form (codes "images") 256 Tiles)) (λ s. one_line image_form) no_state 0
+images_part = counted_parts (one_line (count_form (codes "images") MAX_TILES Tiles)) (λ s. one_line image_form) no_state 0
 
 -- ---- the block of a step behind its first line, where so many nodes came before
 

@@ -8,12 +8,8 @@ use Rattle.wt_line.specs.declared.faults.What.{What}
 use Rattle.wt_line.specs.declared.faults.What.TheVariants.{Tiles, Nodes, Depth, Number}
 use Rattle.wt_text.specs.Words.{number, is_decimal}
 use Rattle.wt_text.specs.Readers.{◌then◌, LineFault, wrong, past}
-use Rattle.wt_refute.specs.Refutation.{Refutation, Branches, branch, cite, no_more, more, node_count}
-
--- how many children a node has
-abbrev pub branch_count : Branches → ℕ
-branch_count no_more = 0
-branch_count (more tile tree others) = suc (branch_count others)
+use Rattle.wt_refute.specs.Refutation.{Refutation, Branches, branch, cite, no_more, more, node_count, branch_count}
+use Rattle.wt_grid.specs.declared.limits.TheConstants.{MAX_TILES}
 
 -- how a citing node names its axis
 abbrev pub axis_word : Axis → List ℕ
@@ -92,7 +88,7 @@ cell_in nodes t = if nat_lt nodes 1048576 then limited 65535 Number (number t) e
 -- at most 256 children
 abbrev pub ending_in : Option Ending → Result Ending (LineFault What)
 ending_in None = Err wrong
-ending_in (Some (children n)) = if nat_le n 256 then Ok (children n) else Err (past Tiles)
+ending_in (Some (children n)) = if nat_le n MAX_TILES then Ok (children n) else Err (past Tiles)
 ending_in (Some (cites axis)) = Ok (cites axis)
 
 -- so many branches
@@ -130,7 +126,7 @@ tree_to_end citing nodes ts = if is_tree citing ts then found_tree (tree_in citi
 abbrev mutual
   pub IsWritableTree : Bool → ℕ → ℕ → Refutation → Type 0
   IsWritableTree citing zero nodes tree = ⊥
-  IsWritableTree citing (suc levels) nodes (branch cell branches) = (nodes < 1048576) × (cell ≤ 65535) × (branch_count branches ≤ 256) × AreWritableBranches citing levels (nodes + 1) branches
+  IsWritableTree citing (suc levels) nodes (branch cell branches) = (nodes < 1048576) × (cell ≤ 65535) × (branch_count branches ≤ MAX_TILES) × AreWritableBranches citing levels (nodes + 1) branches
   IsWritableTree citing (suc levels) nodes (cite cell axis) = (nodes < 1048576) × (cell ≤ 65535) × (citing ≡ true)
 
   pub AreWritableBranches : Bool → ℕ → ℕ → Branches → Type 0

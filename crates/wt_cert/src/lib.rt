@@ -10,6 +10,6 @@ mod read;
 mod tests;
 mod write;
 
-pub use laws::certificates_are_exact;
+pub use laws::{certificates_are_exact, good_chains_have_texts};
 pub use read::{read_cert, read_chain};
 pub use write::write_cert;

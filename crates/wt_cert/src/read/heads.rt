@@ -7,14 +7,17 @@ ghost use Rattle.wt_text.specs.Readers.{mapped, seen_value, first, second};
 ghost use Rattle.wt_cert.specs.LineForms.{alone_form, count_form, version_form, steps_form, head_form, allowed_form, end_form};
 ghost use Rattle.wt_cert.specs.LineForms as spec;
 ghost use Rattle.wt_cert.specs.Seen.{head_view, end_view};
-ghost use Rattle.wt_line.specs.Left.{tokens_left, ReadsRest};
+ghost use Rattle.wt_line.specs.Left.{tokens_left};
 
-use crate::read::words::{axis, radius, side, this_number};
+use crate::read::words::this_number;
 use wt_chain::Version;
-use wt_line::{LineFault, Rest, What, line_end, next_token, number, number_to, small_number, word};
+use wt_line::{
+    LineFault, Rest, What, axis, line_end, next_token, number_from_one, number_to, radius, side,
+    small_number, word,
+};
 use wt_tile::{Axis, Side};
 
-const MAX_STEPS: u64 = 32;
+const MAX_STEPS: u32 = 32;
 
 const MAX_EXPANSION: u32 = 256;
 
@@ -89,27 +92,6 @@ pub fn version_row(line: &[u8]) -> Result<Version, LineFault>
     Ok(version)
 }
 
-/// A number of steps, at least one.
-fn step_count(rest: Rest<'_>) -> Result<(Result<u32, What>, Rest<'_>), LineFault>
-    ensures within { IfOk result (λ x. IfOk x.0 (λ n. n ≤ 32)) }
-    ensures read { ReadsRest spec.step_count result rest.entry }
-{
-    let Some((token, rest)) = next_token(rest) else {
-        return Err(LineFault::Wrong);
-    };
-    let Some(count) = number(token) else {
-        return Err(LineFault::Wrong);
-    };
-    if count == 0 {
-        return Err(LineFault::Wrong);
-    }
-    if count <= MAX_STEPS {
-        Ok((Ok(count as u32), rest))
-    } else {
-        Ok((Err(What::Steps), rest))
-    }
-}
-
 /// `steps S`.
 #[tactic(auto, unfolding(crate::specs::LineForms::steps_form, wt_text::specs::Readers::whole, wt_text::specs::Readers::value_behind))]
 pub fn steps_row(line: &[u8]) -> Result<u32, LineFault>
@@ -117,7 +99,7 @@ pub fn steps_row(line: &[u8]) -> Result<u32, LineFault>
     ensures read { ReadsLine (λ x. x) result (steps_form (tokens line.now)) }
 {
     let rest = word("steps", Rest::new(line))?;
-    let (count, rest) = step_count(rest)?;
+    let (count, rest) = number_from_one(MAX_STEPS, What::Steps, rest)?;
     line_end(rest)?;
     Ok(count?)
 }

@@ -14,10 +14,9 @@ ghost use Rattle.wt_line.specs.Left.{tokens_left, ReadsRest};
 
 use crate::read::forms::tree_form;
 use crate::read::trees::tree_within;
-use crate::read::words::{axis, radius};
 use std::alloc::Global;
 use wt_chain::Version;
-use wt_line::{LineFault, Rest, What, line_end, small_number};
+use wt_line::{LineFault, Rest, What, axis, line_end, radius, small_number};
 use wt_morphism::Image;
 use wt_refute::{Refuted, Tree};
 use wt_step::Lost;
