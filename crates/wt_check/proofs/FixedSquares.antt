@@ -13,10 +13,10 @@ use Rattle.wt_tile.specs.Matching.{matches}
 use Rattle.wt_step.specs.declared.raw.RawLink.{RawLink}
 use Rattle.wt_check.specs.Seeds.{gather, when, Corners, is_fixed, seed, seeds_above, seeds_beside, seeds_from, all_seeds, power_corners, loop_tiles, loop_seeds, square, IsFixedSquare}
 
-none : {A : Type 0} (x : A) → Contains [] x → ⊥
+pub none : {A : Type 0} (x : A) → Contains [] x → ⊥
 none x h = let lt = h.1 in absurd (omega arith)
 
-only : {A : Type 0} (y x : A) → Contains (y ∷ []) x → y ≡ x
+pub only : {A : Type 0} (y x : A) → Contains (y ∷ []) x → y ≡ x
 only y x h = elim (Contains-push_cases [] y x h) [
   | inl l ↦ absurd (none x l)
   | inr e ↦ e
@@ -30,7 +30,7 @@ in_gather (suc n) f x k lt h = elim (cases_lt k n) [
   | inr hi ↦ Contains-append_right (gather n f) (f n) x (let same : k ≡ n = omega arith in subst (λ (m : ℕ). Contains (f m) x) same h)
 ]
 
-of_gather : {A : Type 0} (n : ℕ) (f : ℕ → List A) (x : A) → Contains (gather n f) x → (k : ℕ) × (k < n) × Contains (f k) x
+pub of_gather : {A : Type 0} (n : ℕ) (f : ℕ → List A) (x : A) → Contains (gather n f) x → (k : ℕ) × (k < n) × Contains (f k) x
 unfolding gather
 of_gather zero f x h = absurd (none x h)
 of_gather (suc n) f x h = elim (Contains-append_cases (gather n f) (f n) x h) [
@@ -42,7 +42,7 @@ in_when : {A : Type 0} (b : Bool) (xs : List A) (x : A) → b ≡ true → Conta
 in_when true xs x e h = h
 in_when false xs x e h = absurd (cc e)
 
-of_when : {A : Type 0} (b : Bool) (xs : List A) (x : A) → Contains (when b xs) x → (b ≡ true) × Contains xs x
+pub of_when : {A : Type 0} (b : Bool) (xs : List A) (x : A) → Contains (when b xs) x → (b ≡ true) × Contains xs x
 of_when true xs x h = (refl, h)
 of_when false xs x h = absurd (none x h)
 

@@ -6,3 +6,5 @@ pub mod Pulled
 pub mod Ends
 pub mod Gathered
 pub mod FixedSquares
+pub mod Ascending
+pub mod Composed

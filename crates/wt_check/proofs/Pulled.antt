@@ -105,7 +105,7 @@ module _ (loop : List RawLink) (renaming : List ℕ) (closed : IsClosed loop ren
       a ∙ (b ∙ z)
 
   -- what turns make of a rectangle holds what they make of its tiles
-  power_total : (n : ℕ) (g : Grid) → IsPattern closed.set.tiles g → (u : ℕ) → count u (turned_times loop renaming n g) ≡ total (λ x. count u (power loop renaming n x)) g.cells
+  pub power_total : (n : ℕ) (g : Grid) → IsPattern closed.set.tiles g → (u : ℕ) → count u (turned_times loop renaming n g) ≡ total (λ x. count u (power loop renaming n x)) g.cells
   power_total zero g p u = total_alike (length closed.set.tiles) (unit u) (λ x. units u (x ∷ [])) g.cells (cells_below (length closed.set.tiles) g p.0 p.1) (λ x lt. omega arith)
   power_total (suc n) g p u =
       power_total n (turned loop renaming g) (turn_valid loop renaming closed g p) u

@@ -1,18 +1,25 @@
 -- What so many turns of a loop make of a tile of its first set, and how often a tile stands there.
-use Rattle.std.specs.Prelude.{◌≡◌, ℕ, zero, suc, ◌+◌, ◌*◌, ◌^◌, ◌<◌, ◌≤◌, nat_eq, if◌then◌else◌, List, [], ◌∷◌, length, slice_index, Option, MatchOption}
+use Rattle.std.specs.Prelude.{◌≡◌, ℕ, zero, suc, ◌+◌, ◌*◌, ◌^◌, ◌<◌, ◌≤◌, nat_eq, if◌then◌else◌, List, [], ◌∷◌, length, drop, slice_index, Option, MatchOption}
 use Rattle.wt_grid.specs.Traces.{piece_tiles}
 use Rattle.wt_tile.specs.declared.tile.TileList.{TileList}
 use Rattle.wt_bijection.specs.Carried.{IsRenaming}
 use Rattle.wt_grid.specs.Grid.{Grid}
 use Rattle.wt_grid.specs.Widths.{total}
 use Rattle.wt_step.specs.declared.raw.RawLink.{RawLink}
+use Rattle.wt_chain.specs.declared.raw.RawChain.{RawChain}
+use Rattle.wt_chain.specs.Looped.{IsLooped}
 use Rattle.wt_chain.specs.Sets.{AreLinked, last_set, first_count}
 use Rattle.wt_chain.specs.Growth.{image_of, origin}
 use Rattle.wt_chain.specs.Turns.{turned_times, single}
+use Rattle.wt_grid.specs.declared.limits.TheConstants.{MAX_TILES}
 
 -- the power of the loop's map, on one tile
 abbrev pub power : List RawLink → List ℕ → ℕ → ℕ → Grid
 power loop renaming turns tile = turned_times loop renaming turns (single tile)
+
+-- what so many turns of a chain's loop make of a tile
+abbrev pub loop_power : {c : RawChain} → IsLooped c → ℕ → ℕ → Grid
+loop_power {c} loop turns tile = power (drop loop.start c.steps) loop.renaming turns tile
 
 -- 1 for this tile, and 0 for any other
 abbrev pub unit : ℕ → ℕ → ℕ
@@ -32,7 +39,7 @@ HasLarge g = (u : ℕ) × (2 ^ 128 ≤ count u g)
 
 -- the numbers are the counts of 256 tiles
 abbrev pub AreCounts : List ℕ → Grid → Type 0
-AreCounts ns g = (u : ℕ) → u < 256 → slice_index ns u ≡ count u g
+AreCounts ns g = (u : ℕ) → u < MAX_TILES → slice_index ns u ≡ count u g
 
 -- f 0, f 1 and so on, n of them, added up
 abbrev pub sum_below : ℕ → (ℕ → ℕ) → ℕ
@@ -53,19 +60,19 @@ pushed tiles ns n u = sum_below n (λ x. slice_index ns x * units u (tiles x))
 
 -- n has been added to the count of each tile of a list, as often as it stands there
 abbrev pub AreAdded : List ℕ → List ℕ → ℕ → List ℕ → Type 0
-AreAdded old new n tiles = (u : ℕ) → u < 256 → slice_index new u ≡ slice_index old u + n * units u tiles
+AreAdded old new n tiles = (u : ℕ) → u < MAX_TILES → slice_index new u ≡ slice_index old u + n * units u tiles
 
 -- some count would be 2^128 or more then
 abbrev pub IsAddedTooLarge : List ℕ → ℕ → List ℕ → Type 0
-IsAddedTooLarge old n tiles = (u : ℕ) × (u < 256) × (2 ^ 128 ≤ slice_index old u + n * units u tiles)
+IsAddedTooLarge old n tiles = (u : ℕ) × (u < MAX_TILES) × (2 ^ 128 ≤ slice_index old u + n * units u tiles)
 
 -- the numbers are those that are pushed
 abbrev pub ArePushed : (ℕ → List ℕ) → List ℕ → List ℕ → Type 0
-ArePushed tiles ns next = (u : ℕ) → u < 256 → slice_index next u ≡ pushed tiles ns 256 u
+ArePushed tiles ns next = (u : ℕ) → u < MAX_TILES → slice_index next u ≡ pushed tiles ns MAX_TILES u
 
 -- some number that is pushed is 2^128 or more
 abbrev pub IsPushedTooLarge : (ℕ → List ℕ) → List ℕ → Type 0
-IsPushedTooLarge tiles ns = (u : ℕ) × (u < 256) × (2 ^ 128 ≤ pushed tiles ns 256 u)
+IsPushedTooLarge tiles ns = (u : ℕ) × (u < MAX_TILES) × (2 ^ 128 ≤ pushed tiles ns MAX_TILES u)
 
 -- the counts of a rectangle, or none where one is 2^128 or more
 abbrev pub AreCountsOrLarge : Option (List ℕ) → Grid → Type 0
@@ -74,7 +81,7 @@ AreCountsOrLarge counts g = MatchOption counts (HasLarge g) (λ ns. AreCounts ns
 -- a loop: good steps from its first set on, and a renaming from the last set to the first
 pub record IsClosed (loop : List RawLink) (renaming : List ℕ) : Type 0 where
   pub set : TileList
-  pub few : length set.tiles ≤ 256
+  pub few : length set.tiles ≤ MAX_TILES
   pub counted : length set.tiles ≡ first_count loop
   pub linked : AreLinked set loop
   pub renames : IsRenaming (last_set set loop).tiles set.tiles renaming

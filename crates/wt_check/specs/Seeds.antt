@@ -1,5 +1,6 @@
 -- Seeds: valid 2 by 2 patterns whose tiles stand at the opposite corners of their own powers.
-use Rattle.std.specs.Prelude.{◌≡◌, ℕ, zero, suc, ◌++◌, Bool, true, false, ◌&&◌, nat_eq, if◌then◌else◌, List, [], ◌∷◌, length, drop, slice_index}
+use Rattle.std.specs.Prelude.{◌≡◌, ℕ, zero, suc, ◌++◌, Bool, true, false, ◌&&◌, nat_eq, if◌then◌else◌, List, [], ◌∷◌, length, drop, slice_index, Contains}
+use Rattle.wt_grid.specs.Order.{IsBefore}
 use Rattle.wt_grid.specs.declared.axis.Axis.TheVariants.{One, Two}
 use Rattle.wt_tile.specs.declared.tile.Tile.{Tile}
 use Rattle.wt_tile.specs.Matching.{matches}
@@ -102,3 +103,8 @@ pub record IsFixedSquare (loop : List RawLink) (renaming : List ℕ) (q a b c d 
 abbrev pub HasSeedFault : End → SeedFault → Type 0
 HasSeedFault Open e = e ≡ OpenChain
 HasSeedFault (Loop start renaming expansion) e = e ≡ OutOfMemory
+
+-- lists in strict order: each comes before all that stand behind it
+abbrev pub IsAscending : List (List ℕ) → Type 0
+IsAscending [] = Unit {0}
+IsAscending (x ∷ xs) = ((y : List ℕ) → Contains xs y → IsBefore x y) × IsAscending xs

@@ -7,6 +7,7 @@ ghost use Rattle.wt_check.specs.Powers.{IsClosed};
 ghost use Rattle.wt_check.specs.Corners.{is_far, corner_under, AreCorners, IsCarriedTable};
 
 use wt_chain::{image_of, is_along, origins};
+use wt_grid::MAX_TILES;
 use wt_morphism::Image;
 use wt_step::RawLink;
 use wt_tile::Axis;
@@ -38,17 +39,17 @@ fn pick(far: bool, image: Image) -> u16
 }
 
 /// The fine tile at a corner, of each coarse tile of a step.
-fn next_corners(corner: Corner, link: &RawLink, table: &[u16; 256]) -> [u16; 256]
-    ensures { (t : ℕ) → t < 256 → slice_index result t ≡ slice_index table.now (corner_under corner link.now t) }
+fn next_corners(corner: Corner, link: &RawLink, table: &[u16; MAX_TILES]) -> [u16; MAX_TILES]
+    ensures { (t : ℕ) → t < MAX_TILES → slice_index result t ≡ slice_index table.now (corner_under corner link.now t) }
 {
-    let mut next = [0u16; 256];
+    let mut next = [0u16; MAX_TILES];
     for t in 0..256u16 {
         next[usize::from(t)] = at(table, pick(far(corner, link), image_of(link, t)));
     }
     next
 }
 
-fn at(table: &[u16; 256], t: u16) -> u16
+fn at(table: &[u16; MAX_TILES], t: u16) -> u16
     ensures { result ≡ slice_index table.now t }
 {
     let t = usize::from(t);
@@ -56,7 +57,7 @@ fn at(table: &[u16; 256], t: u16) -> u16
 }
 
 /// The same behind several steps.
-fn climb(corner: Corner, links: &[RawLink], table: &[u16; 256]) -> [u16; 256]
+fn climb(corner: Corner, links: &[RawLink], table: &[u16; MAX_TILES]) -> [u16; MAX_TILES]
     ensures { IsCarriedTable corner links.now table.now result }
 {
     let mut table = *table;
@@ -67,10 +68,10 @@ fn climb(corner: Corner, links: &[RawLink], table: &[u16; 256]) -> [u16; 256]
 }
 
 /// Each tile's number, of the tile that it is renamed back to.
-fn renamed(origins: &[u16; 256], table: &[u16; 256]) -> [u16; 256]
-    ensures { (t : ℕ) → t < 256 → slice_index result t ≡ slice_index table.now (slice_index origins.now t) }
+fn renamed(origins: &[u16; MAX_TILES], table: &[u16; MAX_TILES]) -> [u16; MAX_TILES]
+    ensures { (t : ℕ) → t < MAX_TILES → slice_index result t ≡ slice_index table.now (slice_index origins.now t) }
 {
-    let mut next = [0u16; 256];
+    let mut next = [0u16; MAX_TILES];
     for t in 0..256usize {
         next[t] = at(table, origins[t]);
     }
@@ -78,10 +79,10 @@ fn renamed(origins: &[u16; 256], table: &[u16; 256]) -> [u16; 256]
 }
 
 /// Each tile's own number.
-fn alone() -> [u16; 256]
-    ensures { (t : ℕ) → t < 256 → slice_index result t ≡ t }
+fn alone() -> [u16; MAX_TILES]
+    ensures { (t : ℕ) → t < MAX_TILES → slice_index result t ≡ t }
 {
-    let mut table = [0u16; 256];
+    let mut table = [0u16; MAX_TILES];
     for t in 0..256u16 {
         table[usize::from(t)] = t;
     }
@@ -93,9 +94,9 @@ fn next_power(
     corner: Corner,
     links: &[RawLink],
     renaming: &[u16],
-    origins: &[u16; 256],
-    table: &[u16; 256],
-) -> [u16; 256]
+    origins: &[u16; MAX_TILES],
+    table: &[u16; MAX_TILES],
+) -> [u16; MAX_TILES]
     requires closed { IsClosed links.now renaming.now }
     requires origins { origins.now ≡ entries_of (origin renaming.now) }
     ensures { (turns : ℕ) → AreCorners corner links.now renaming.now turns table.now → AreCorners corner links.now renaming.now (turns + 1) result }
@@ -104,7 +105,7 @@ fn next_power(
 }
 
 /// For each tile of a loop's first set the tile at a corner of what so many turns make of it.
-pub fn corners(corner: Corner, links: &[RawLink], renaming: &[u16], turns: u32) -> [u16; 256]
+pub fn corners(corner: Corner, links: &[RawLink], renaming: &[u16], turns: u32) -> [u16; MAX_TILES]
     requires closed { IsClosed links.now renaming.now }
     ensures { AreCorners corner links.now renaming.now turns result }
 {

@@ -12,14 +12,15 @@ ghost use Rattle.wt_check.specs.Census.{IsTooLarge, AreCountsAfter, IsWholeCensu
 
 use std::alloc::Global;
 use wt_chain::{Accepted, End, first_count, image_of, origins, steps_from};
+use wt_grid::MAX_TILES;
 use wt_morphism::Image;
 use wt_step::RawLink;
 
 /// Adds n to the count of a tile, or tells that it would be 2^128 or more.
-fn add(counts: &mut [u128; 256], tile: u16, n: u128) -> bool
+fn add(counts: &mut [u128; MAX_TILES], tile: u16, n: u128) -> bool
     ensures { MatchBool result
-        ((u : ℕ) → u < 256 → slice_index counts.new u ≡ slice_index counts.old u + n * unit u tile)
-        ((tile < 256) × (2 ^ 128 ≤ slice_index counts.old tile + n)) }
+        ((u : ℕ) → u < MAX_TILES → slice_index counts.new u ≡ slice_index counts.old u + n * unit u tile)
+        ((tile < MAX_TILES) × (2 ^ 128 ≤ slice_index counts.old tile + n)) }
 {
     let at = usize::from(tile);
     if at >= 256 {
@@ -33,7 +34,7 @@ fn add(counts: &mut [u128; 256], tile: u16, n: u128) -> bool
 }
 
 /// Adds n to the count of each tile of an image.
-fn spread(counts: &mut [u128; 256], image: Image, n: u128) -> bool
+fn spread(counts: &mut [u128; MAX_TILES], image: Image, n: u128) -> bool
     ensures { MatchBool result
         (AreAdded counts.old counts.new n (piece_tiles image))
         (IsAddedTooLarge counts.old n (piece_tiles image)) }
@@ -46,12 +47,12 @@ fn spread(counts: &mut [u128; 256], image: Image, n: u128) -> bool
 
 /// How often each tile stands in the image under a step, where each coarse tile stands as often as the counts
 /// say.
-fn push(link: &RawLink, counts: &[u128; 256]) -> Option<[u128; 256]>
+fn push(link: &RawLink, counts: &[u128; MAX_TILES]) -> Option<[u128; MAX_TILES]>
     ensures { MatchOption result
         (IsPushedTooLarge (tiles_under link.now) counts.now)
         (λ next. ArePushed (tiles_under link.now) counts.now next) }
 {
-    let mut next = [0u128; 256];
+    let mut next = [0u128; MAX_TILES];
     for t in 0..256u16 {
         if !spread(&mut next, image_of(link, t), counts[usize::from(t)]) {
             return None;
@@ -61,14 +62,14 @@ fn push(link: &RawLink, counts: &[u128; 256]) -> Option<[u128; 256]>
 }
 
 /// How often each tile of a loop's last set stands there, once tiles are renamed back.
-fn back(renaming: &[u16], counts: &[u128; 256]) -> Option<[u128; 256]>
-    requires { length renaming.now ≤ 256 }
+fn back(renaming: &[u16], counts: &[u128; MAX_TILES]) -> Option<[u128; MAX_TILES]>
+    requires { length renaming.now ≤ MAX_TILES }
     ensures { MatchOption result
         (IsPushedTooLarge (tile_back renaming.now) counts.now)
         (λ next. ArePushed (tile_back renaming.now) counts.now next) }
 {
     let origins = origins(renaming);
-    let mut next = [0u128; 256];
+    let mut next = [0u128; MAX_TILES];
     for t in 0..256usize {
         if !add(&mut next, origins[t], counts[t]) {
             return None;
@@ -78,7 +79,7 @@ fn back(renaming: &[u16], counts: &[u128; 256]) -> Option<[u128; 256]>
 }
 
 /// The same through several steps, the last step first.
-fn push_through(links: &[RawLink], counts: &[u128; 256]) -> Option<[u128; 256]>
+fn push_through(links: &[RawLink], counts: &[u128; MAX_TILES]) -> Option<[u128; MAX_TILES]>
     ensures { (set : TileList) (q : Grid) → AreLinked set links.now → IsPattern (last_set set links.now).tiles q → AreCounts counts.now q
         → AreCountsOrLarge result (image_through links.now q) }
 {
@@ -92,8 +93,12 @@ fn push_through(links: &[RawLink], counts: &[u128; 256]) -> Option<[u128; 256]>
 }
 
 /// How often each tile stands in what one turn of a loop makes of a rectangle.
-fn turn_counts(links: &[RawLink], renaming: &[u16], counts: &[u128; 256]) -> Option<[u128; 256]>
-    requires { length renaming.now ≤ 256 }
+fn turn_counts(
+    links: &[RawLink],
+    renaming: &[u16],
+    counts: &[u128; MAX_TILES],
+) -> Option<[u128; MAX_TILES]>
+    requires { length renaming.now ≤ MAX_TILES }
     ensures { (closed : IsClosed links.now renaming.now) (g : Grid) → IsPattern closed.set.tiles g → AreCounts counts.now g
         → AreCountsOrLarge result (turned links.now renaming.now g) }
 {
@@ -104,11 +109,11 @@ fn turn_counts(links: &[RawLink], renaming: &[u16], counts: &[u128; 256]) -> Opt
 }
 
 /// The counts of one tile alone.
-fn one_tile(tile: u16) -> [u128; 256]
-    requires { tile < 256 }
+fn one_tile(tile: u16) -> [u128; MAX_TILES]
+    requires { tile < MAX_TILES }
     ensures { AreCounts result (single tile) }
 {
-    let mut counts = [0u128; 256];
+    let mut counts = [0u128; MAX_TILES];
     counts[usize::from(tile)] = 1;
     counts
 }
@@ -120,7 +125,12 @@ fn fits(counts: &[u128])
 
 /// How often each tile stands in what so many turns make of a tile, unless one stands 2^128 times or more
 /// there or in what fewer turns make.
-fn counts_after(links: &[RawLink], renaming: &[u16], turns: u32, tile: u16) -> Option<[u128; 256]>
+fn counts_after(
+    links: &[RawLink],
+    renaming: &[u16],
+    turns: u32,
+    tile: u16,
+) -> Option<[u128; MAX_TILES]>
     requires closed { IsClosed links.now renaming.now }
     requires below { tile < sets.first_count links.now }
     ensures { MatchOption result (IsTooLarge links.now renaming.now turns tile)

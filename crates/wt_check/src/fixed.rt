@@ -7,6 +7,7 @@ ghost use Rattle.wt_check.specs.Seeds.{gather, told, seed, seeds_above, seeds_be
 use crate::corners::{Corner, corners};
 use std::alloc::{AllocError, Global};
 use wt_chain::{Accepted, End, steps_from};
+use wt_grid::MAX_TILES;
 use wt_step::{LinkRef, RawLink};
 use wt_tile::{Axis, SetRef};
 
@@ -14,13 +15,13 @@ use wt_tile::{Axis, SetRef};
 #[derive(Clone, Copy)]
 pub struct Tables {
     /// In the last column and the top row.
-    pub upper_right: [u16; 256],
+    pub upper_right: [u16; MAX_TILES],
     /// In the first column and the top row.
-    pub upper_left: [u16; 256],
+    pub upper_left: [u16; MAX_TILES],
     /// In the last column and the bottom row.
-    pub lower_right: [u16; 256],
+    pub lower_right: [u16; MAX_TILES],
     /// In the first column and the bottom row.
-    pub lower_left: [u16; 256],
+    pub lower_left: [u16; MAX_TILES],
 }
 
 /// Adds the seed of these four tiles, where it is one.
@@ -36,7 +37,7 @@ fn add_seed(
     requires second { b < length set.list.now.tiles }
     requires third { c < length set.list.now.tiles }
     requires last { d < length set.list.now.tiles }
-    requires few { length set.list.now.tiles ≤ 256 }
+    requires few { length set.list.now.tiles ≤ MAX_TILES }
     ensures { OnOk result (out.new.items ≡ out.old.items ++ seed set.entry.list.now.tiles (told tables.now) a b c d) }
 {
     if tables.lower_left[usize::from(d)] == d
@@ -57,7 +58,7 @@ fn add_last(
 ) -> Result<(), AllocError>
     requires second { b < length set.list.now.tiles }
     requires third { c < length set.list.now.tiles }
-    requires few { length set.list.now.tiles ≤ 256 }
+    requires few { length set.list.now.tiles ≤ MAX_TILES }
     ensures { OnOk result (out.new.items ≡ out.old.items ++ gather (length set.entry.list.now.tiles) (seed set.entry.list.now.tiles (told tables.now) a b c)) }
 {
     let count = set.len() as u16;
@@ -79,7 +80,7 @@ fn add_above(
     requires first { a < length set.list.now.tiles }
     requires second { b < length set.list.now.tiles }
     requires third { c < length set.list.now.tiles }
-    requires few { length set.list.now.tiles ≤ 256 }
+    requires few { length set.list.now.tiles ≤ MAX_TILES }
     ensures { OnOk result (out.new.items ≡ out.old.items ++ seeds_above set.entry.list.now.tiles (told tables.now) a b c) }
 {
     if tables.lower_right[usize::from(c)] == c && set.matches(Axis::Two, a, c) {
@@ -97,7 +98,7 @@ fn add_third(
 ) -> Result<(), AllocError>
     requires first { a < length set.list.now.tiles }
     requires second { b < length set.list.now.tiles }
-    requires few { length set.list.now.tiles ≤ 256 }
+    requires few { length set.list.now.tiles ≤ MAX_TILES }
     ensures { OnOk result (out.new.items ≡ out.old.items ++ gather (length set.entry.list.now.tiles) (seeds_above set.entry.list.now.tiles (told tables.now) a b)) }
 {
     let count = set.len() as u16;
@@ -117,7 +118,7 @@ fn add_beside(
 ) -> Result<(), AllocError>
     requires first { a < length set.list.now.tiles }
     requires second { b < length set.list.now.tiles }
-    requires few { length set.list.now.tiles ≤ 256 }
+    requires few { length set.list.now.tiles ≤ MAX_TILES }
     ensures { OnOk result (out.new.items ≡ out.old.items ++ seeds_beside set.entry.list.now.tiles (told tables.now) a b) }
 {
     if tables.upper_left[usize::from(b)] == b && set.matches(Axis::One, a, b) {
@@ -133,7 +134,7 @@ fn add_second(
     a: u16,
 ) -> Result<(), AllocError>
     requires first { a < length set.list.now.tiles }
-    requires few { length set.list.now.tiles ≤ 256 }
+    requires few { length set.list.now.tiles ≤ MAX_TILES }
     ensures { OnOk result (out.new.items ≡ out.old.items ++ gather (length set.entry.list.now.tiles) (seeds_beside set.entry.list.now.tiles (told tables.now) a)) }
 {
     let count = set.len() as u16;
@@ -146,7 +147,7 @@ fn add_second(
 /// Adds the seeds with this tile at the lower left.
 fn add_from(out: &mut Vec<[u16; 4]>, set: SetRef, tables: &Tables, a: u16) -> Result<(), AllocError>
     requires first { a < length set.list.now.tiles }
-    requires few { length set.list.now.tiles ≤ 256 }
+    requires few { length set.list.now.tiles ≤ MAX_TILES }
     ensures { OnOk result (out.new.items ≡ out.old.items ++ seeds_from set.entry.list.now.tiles (told tables.now) a) }
 {
     if tables.upper_right[usize::from(a)] == a {
@@ -157,7 +158,7 @@ fn add_from(out: &mut Vec<[u16; 4]>, set: SetRef, tables: &Tables, a: u16) -> Re
 
 /// Adds all seeds.
 fn add_all(out: &mut Vec<[u16; 4]>, set: SetRef, tables: &Tables) -> Result<(), AllocError>
-    requires few { length set.list.now.tiles ≤ 256 }
+    requires few { length set.list.now.tiles ≤ MAX_TILES }
     ensures { OnOk result (out.new.items ≡ out.old.items ++ all_seeds set.entry.list.now.tiles (told tables.now)) }
 {
     let count = set.len() as u16;

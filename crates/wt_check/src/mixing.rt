@@ -11,6 +11,7 @@ ghost use Rattle.wt_check.specs.Primitive as spec;
 ghost use Rattle.wt_check.specs.Primitive.{IsLoopPower, IsPower, ArePowers};
 
 use wt_chain::{Accepted, End, first_count, image_of, origins, steps_from};
+use wt_grid::MAX_TILES;
 use wt_mask::{has_bit, join_into, single};
 use wt_morphism::Image;
 use wt_step::RawLink;
@@ -27,14 +28,14 @@ fn empty() -> [u64; 4]
 }
 
 /// The mask of a tile; a number past the table has none.
-fn mask_at(rows: &[[u64; 4]; 256], t: u16) -> [u64; 4]
+fn mask_at(rows: &[[u64; 4]; MAX_TILES], t: u16) -> [u64; 4]
     ensures { (u : ℕ) → mask_bit result u ≡ mask_bit (mask_words.mask_at rows.now t) u }
 {
     let t = usize::from(t);
     if t < 256 { rows[t] } else { empty() }
 }
 
-fn image_mask(rows: &[[u64; 4]; 256], image: Image) -> [u64; 4]
+fn image_mask(rows: &[[u64; 4]; MAX_TILES], image: Image) -> [u64; 4]
     ensures { (u : ℕ) → mask_bit result u ≡ image_bit rows.now u image }
 {
     match image {
@@ -48,10 +49,10 @@ fn image_mask(rows: &[[u64; 4]; 256], image: Image) -> [u64; 4]
 }
 
 /// The masks of a step's coarse tiles, from those of its fine tiles.
-fn next_masks(link: &RawLink, rows: &[[u64; 4]; 256]) -> [[u64; 4]; 256]
+fn next_masks(link: &RawLink, rows: &[[u64; 4]; MAX_TILES]) -> [[u64; 4]; MAX_TILES]
     ensures { (t u : ℕ) → t < 256 → mask_bit (mask_words.mask_at result t) u ≡ image_bit rows.now u (growth.image_of link.now t) }
 {
-    let mut next = [[0u64; 4]; 256];
+    let mut next = [[0u64; 4]; MAX_TILES];
     for t in 0..256u16 {
         next[usize::from(t)] = image_mask(rows, image_of(link, t));
     }
@@ -59,7 +60,7 @@ fn next_masks(link: &RawLink, rows: &[[u64; 4]; 256]) -> [[u64; 4]; 256]
 }
 
 /// The masks of the set behind these steps, from those of the set before them.
-fn climb(links: &[RawLink], rows: &[[u64; 4]; 256]) -> [[u64; 4]; 256]
+fn climb(links: &[RawLink], rows: &[[u64; 4]; MAX_TILES]) -> [[u64; 4]; MAX_TILES]
     ensures { AreCarriedMasks links.now rows.now result }
 {
     let mut table = *rows;
@@ -70,10 +71,10 @@ fn climb(links: &[RawLink], rows: &[[u64; 4]; 256]) -> [[u64; 4]; 256]
 }
 
 /// Each tile's mask, of the tile that it is renamed back to.
-fn renamed(origins: &[u16; 256], rows: &[[u64; 4]; 256]) -> [[u64; 4]; 256]
+fn renamed(origins: &[u16; MAX_TILES], rows: &[[u64; 4]; MAX_TILES]) -> [[u64; 4]; MAX_TILES]
     ensures { (t u : ℕ) → t < 256 → mask_bit (mask_words.mask_at result t) u ≡ mask_bit (mask_words.mask_at rows.now (slice_index origins.now t)) u }
 {
-    let mut next = [[0u64; 4]; 256];
+    let mut next = [[0u64; 4]; MAX_TILES];
     for t in 0..256usize {
         next[t] = mask_at(rows, origins[t]);
     }
@@ -81,10 +82,10 @@ fn renamed(origins: &[u16; 256], rows: &[[u64; 4]; 256]) -> [[u64; 4]; 256]
 }
 
 /// Each tile alone.
-fn alone() -> [[u64; 4]; 256]
-    ensures { AreMasks 256 result (λ u t. if nat_eq t u then 1 else 0) }
+fn alone() -> [[u64; 4]; MAX_TILES]
+    ensures { AreMasks MAX_TILES result (λ u t. if nat_eq t u then 1 else 0) }
 {
-    let mut rows = [[0u64; 4]; 256];
+    let mut rows = [[0u64; 4]; MAX_TILES];
     for t in 0..256usize {
         rows[t] = single(t);
     }
@@ -93,7 +94,7 @@ fn alone() -> [[u64; 4]; 256]
 
 /// Whether a mask has all of the first n bits.
 fn is_full(mask: &[u64; 4], n: usize) -> bool
-    requires { n ≤ 256 }
+    requires { n ≤ MAX_TILES }
     ensures { MatchBool result ((u : ℕ) → u < n → mask_bit mask.now u ≡ 1) ((u : ℕ) × (u < n) × (mask_bit mask.now u ≡ 1 → ⊥)) }
 {
     for u in 0..n {
@@ -105,8 +106,8 @@ fn is_full(mask: &[u64; 4], n: usize) -> bool
 }
 
 /// Whether the masks of n tiles all have the first n bits.
-fn are_full(rows: &[[u64; 4]; 256], n: usize) -> bool
-    requires { n ≤ 256 }
+fn are_full(rows: &[[u64; 4]; MAX_TILES], n: usize) -> bool
+    requires { n ≤ MAX_TILES }
     ensures { MatchBool result
         ((t u : ℕ) → t < n → u < n → mask_bit (mask_words.mask_at rows.now t) u ≡ 1)
         ((t : ℕ) × (u : ℕ) × (t < n) × (u < n) × (mask_bit (mask_words.mask_at rows.now t) u ≡ 1 → ⊥)) }
@@ -123,9 +124,9 @@ fn are_full(rows: &[[u64; 4]; 256], n: usize) -> bool
 fn next_power(
     links: &[RawLink],
     renaming: &[u16],
-    origins: &[u16; 256],
-    rows: &[[u64; 4]; 256],
-) -> [[u64; 4]; 256]
+    origins: &[u16; MAX_TILES],
+    rows: &[[u64; 4]; MAX_TILES],
+) -> [[u64; 4]; MAX_TILES]
     requires closed { IsClosed links.now renaming.now }
     requires origins { origins.now ≡ entries_of (growth.origin renaming.now) }
     ensures { (turns : ℕ) → ArePowers links.now renaming.now turns rows.now → ArePowers links.now renaming.now (turns + 1) result }
@@ -135,7 +136,7 @@ fn next_power(
 
 /// The greatest power that is asked for, for n tiles.
 fn last_power(n: usize) -> u32
-    requires { n ≤ 256 }
+    requires { n ≤ MAX_TILES }
     ensures { result ≡ spec.last_power n }
 {
     let less = n.saturating_sub(1) as u32;
