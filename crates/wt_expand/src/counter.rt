@@ -8,9 +8,11 @@ ghost use Rattle.wt_chain.specs.Tables as tables;
 ghost use Rattle.wt_chain.specs.Turns.{axis_of};
 ghost use Rattle.wt_expand.specs.declared.limits.TheConstants.{MAX_STEPS, MAX_TURNS, MAX_BLOCK};
 ghost use Rattle.wt_expand.specs.Blocks.{are_below};
+ghost use Rattle.wt_grid.specs.declared.limits.TheConstants as limits;
 
 use crate::limits::MAX_LEVELS;
 use wt_chain::image_of;
+use wt_grid::MAX_TILES;
 use wt_morphism::Image;
 use wt_step::RawLink;
 use wt_tile::Axis;
@@ -29,11 +31,11 @@ pub struct Counter<'a> {
     /// The loop's renaming: tile i of the last set is carried onto this tile of the loop's first set.
     pub renaming: &'a [u16],
     /// For each tile the one that is carried onto it.
-    pub origins: [u16; 256],
+    pub origins: [u16; MAX_TILES],
     /// How many numbers a level's block has.
     pub block: usize,
     pub ghost names: { origins ≡ tables.entries_of (growth.origin renaming.now) },
-    pub ghost small: { are_below 256 renaming.now ≡ true },
+    pub ghost small: { are_below limits.MAX_TILES renaming.now ≡ true },
     pub ghost inside: { start < length steps.now },
     pub ghost few: { length steps.now ≤ MAX_STEPS },
     pub ghost short: { turns ≤ MAX_TURNS },

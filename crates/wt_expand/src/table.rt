@@ -7,6 +7,7 @@ ghost use Rattle.wt_expand.specs.PieceTables.{HasPieces};
 
 use crate::counter::{Counter, LevelRef};
 use crate::laid::tile_of;
+use wt_grid::MAX_TILES;
 use wt_morphism::Image;
 use wt_step::RawLink;
 
@@ -14,11 +15,11 @@ use wt_step::RawLink;
 #[derive(Drop)]
 pub struct PieceTable {
     /// The first tile of what a tile stands for.
-    pub firsts: [u16; 256],
+    pub firsts: [u16; MAX_TILES],
     /// The last tile of it.
-    pub lasts: [u16; 256],
+    pub lasts: [u16; MAX_TILES],
     /// How many tiles it is: 1 or 2.
-    pub lens: [u8; 256],
+    pub lens: [u8; MAX_TILES],
     /// How many tiles have entries.
     pub count: usize,
 }
@@ -45,9 +46,9 @@ fn len_of(image: Image) -> u8
 pub fn table_of(counter: &Counter<'_>, level: LevelRef<'_>) -> PieceTable
     ensures { HasPieces result counter.now.renaming.now (level_of level.entry) }
 {
-    let mut firsts = [0u16; 256];
-    let mut lasts = [0u16; 256];
-    let mut lens = [0u8; 256];
+    let mut firsts = [0u16; MAX_TILES];
+    let mut lasts = [0u16; MAX_TILES];
+    let mut lens = [0u8; MAX_TILES];
     let count = image_count(level.link).min(256);
     for t in 0..count {
         let image = counter.piece(level, t as u16);
