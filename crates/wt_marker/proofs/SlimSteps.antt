@@ -1,5 +1,6 @@
 -- Derived steps are within the limits of a text.
 use Rattle.std.proofs.Common.{arith, ◌≡◌, ℕ, zero, suc, ◌+◌, ◌*◌, ◌<◌, ◌≤◌, Bool, true, false, List, [], ◌∷◌, ◌++◌, length, length-append, map, None, refl}
+use Rattle.wt_step.specs.Limits.{IsSlimEntry, IsSlimStep}
 use Rattle.std.specs.Fmt.{decimal}
 use Rattle.std.specs.List.{range_with_len, All}
 use Rattle.std.proofs.lemmas.Fmt.{length-decimal-le, decimal_nonempty}
@@ -12,7 +13,6 @@ use Rattle.wt_tile.specs.Names.{IsName, all_name_bytes}
 use Rattle.wt_marker.specs.Gather.{gather, only_if, pair_at, row_of, pairs_of}
 use Rattle.wt_marker.specs.Coarse.{edges_of, all1, all2}
 use Rattle.wt_marker.specs.Derived.{Plan, IsPlan, tiles_of, dominoes, is_refuted, refuted_pairs, entry_of, entries, images_of, edges_in, derived, derive_fault, images_fault, trees_fault}
-use Rattle.wt_marker.specs.Slim.{IsSlimEntry, IsSlimStep}
 use Rattle.wt_marker.proofs.Listed.{each_append, each_at}
 use Rattle.wt_marker.proofs.Plans.{some_other}
 use Rattle.wt_marker.proofs.Joins.{length_mapped}

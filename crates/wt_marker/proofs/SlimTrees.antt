@@ -1,5 +1,6 @@
 -- Standard trees with nothing known are slim: few levels, few children, small cells, and they cite nothing.
 use Rattle.std.proofs.Common.{arith, ◌≡◌, ℕ, zero, suc, ◌+◌, ◌*◌, ◌<◌, ◌≤◌, Bool, true, false, nat_lt, List, [], ◌∷◌, length, replicate, set, get_or, slice_get, Option, None, Some, refl, ap, subst, length-set}
+use Rattle.wt_step.specs.Limits.{IsSlim, AreSlim, IsSlimEntry}
 use Rattle.std.proofs.lemmas.Bool.{and_parts}
 use Rattle.wt_grid.specs.declared.axis.Axis.TheVariants.{One, Two}
 use Rattle.wt_grid.specs.declared.axis.Axis.{Axis}
@@ -8,7 +9,7 @@ use Rattle.wt_tile.specs.declared.tile.Tile.{Tile}
 use Rattle.wt_grid.specs.First.{first_from}
 use Rattle.wt_pattern.specs.Windows.{window_size}
 use Rattle.wt_refute.specs.declared.tree.Refuted.{Refuted}
-use Rattle.wt_refute.specs.Refutation.{Refutation}
+use Rattle.wt_refute.specs.Refutation.{Refutation, branch_count}
 use Rattle.wt_refute.specs.Placed.{Placed, place, window_of, next_cell, tile_in, is_vacant, passing, fitting, fits_cell}
 use Rattle.wt_refute.specs.Refutes.{is_cited, is_known, next_placed}
 use Rattle.wt_refute.specs.Standard.{citation_at, tightest, node, branches_with, tree_within, standard_tree}
@@ -18,7 +19,6 @@ use Rattle.wt_refute.proofs.Made.{refutation-tree_of}
 use Rattle.wt_refute.proofs.Shape.{few_cells, middle_within}
 use Rattle.wt_marker.specs.Derived.{refuted_pairs, tree_at, entry_of, entries}
 use Rattle.wt_marker.proofs.Listed.{Each, each_map, each_of}
-use Rattle.wt_marker.specs.Slim.{IsSlim, AreSlim, branch_count, IsSlimEntry}
 
 -- free cells
 abbrev free_count : List (Option ℕ) → ℕ

@@ -19,7 +19,7 @@ use Rattle.wt_refute.specs.Refutation.{Refutation, node_count}
 use Rattle.wt_refute.specs.Made.{tree_of}
 use Rattle.wt_refute.specs.Standard.{standard_tree}
 use Rattle.wt_step.specs.declared.raw.RawStep.{RawStep}
-use Rattle.wt_marker.specs.declared.forest.TheConstants.{MAX_NODES}
+use Rattle.wt_refute.specs.declared.limits.TheConstants.{MAX_NODES}
 use Rattle.wt_marker.specs.declared.end.DeriveEnd.{DeriveEnd}
 use Rattle.wt_marker.specs.declared.end.DeriveEnd.TheVariants.{EmptySet, TooManyTiles, Repeated, Spent, TooManyNodes, OutOfMemory}
 use Rattle.wt_marker.specs.Gather.{pairs_of}

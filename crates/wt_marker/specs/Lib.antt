@@ -1,6 +1,6 @@
 pub mod Gather
+pub mod Forests
 pub mod Classes
 pub mod Demanded
 pub mod Coarse
 pub mod Derived
-pub mod Slim

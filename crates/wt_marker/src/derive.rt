@@ -11,18 +11,19 @@ ghost use Rattle.wt_marker.specs.Gather.{pairs_of};
 ghost use Rattle.wt_marker.specs.Classes.{is_in};
 ghost use Rattle.wt_marker.specs.Demanded.{demanded};
 ghost use Rattle.wt_marker.specs.Derived.{IsReason, MayAnswerStep, first_spent, nodes_in, plan, IsPlan, derived, derive_fault, entries, images_of, images_with, edges_in};
+ghost use Rattle.wt_marker.specs.Forests.{HasGrownBy, with_more};
 ghost use Rattle.wt_marker.specs.Derived as spec;
 
 use crate::DeriveEnd;
 use crate::coarse::coarse_set;
-use crate::forest::{Forest, MAX_NODES, plant_all};
+use crate::forest::{Forest, plant_all};
 use crate::images::find_images;
 use crate::listing::{list_allowed, list_refuted};
 use crate::marks::mark;
 use std::alloc::{AllocError, Global};
 use wt_grid::{Image, MAX_TILES};
 use wt_mask::Sides;
-use wt_refute::Refuted;
+use wt_refute::{MAX_NODES, Refuted};
 use wt_seq::Seq;
 use wt_step::{RawStep, Step};
 use wt_tile::{Axis, SetRef, Side, TileList, repeated};
@@ -50,8 +51,8 @@ fn refute_axis(
     requires radius { radius ≤ 4 }
     requires tells { Tells set.list.now.tiles axis radius (allowed table.now) }
     requires few { forest.old.nodes ≤ MAX_NODES + 1 }
-    ensures nodes { OnOk result (forest.new.nodes ≡ min (forest.old.nodes + nodes_in set.entry.list.now.tiles radius axis (allowed table.now)) (MAX_NODES + 1)) }
-    ensures entries { OnOk result (forest.new.nodes ≤ MAX_NODES → forest.new.entries.items ≡ forest.old.entries.items ++ entries set.entry.list.now.tiles radius axis (allowed table.now)) }
+    ensures nodes { OnOk result (forest.new.nodes ≡ with_more forest.old.nodes (nodes_in set.entry.list.now.tiles radius axis (allowed table.now))) }
+    ensures entries { OnOk result (HasGrownBy (entries set.entry.list.now.tiles radius axis (allowed table.now)) forest.old forest.new) }
     ensures unspent { OnOk result (first_spent set.entry.list.now.tiles radius budget axis (allowed table.now) ≡ None) }
     ensures refused { IfErr result (IsReason (first_spent set.entry.list.now.tiles radius budget axis (allowed table.now))) }
 {

@@ -2,16 +2,14 @@
 ghost use Rattle.std.specs.Prelude.{◌≡◌, ◌⊎◌, ◌+◌, ◌≤◌, ◌<◌, ◌++◌, ◌∷◌, [], None, Some, min, length, map, All, IfOk, IfErr, OnOk};
 ghost use Rattle.wt_grid.specs.Order.{first_in};
 ghost use Rattle.wt_refute.specs.Refutation.{node_count};
+ghost use Rattle.wt_marker.specs.Forests.{HasGrownBy, with_more};
 ghost use Rattle.wt_marker.specs.Derived.{IsReason, IsRefutable, tree_at, entry_of, spent_at, nodes_of};
 
 use crate::DeriveEnd;
 use std::alloc::{AllocError, Global};
 use wt_mask::Sides;
-use wt_refute::{BuildEnd, Refuted, build_tree_in, count_nodes};
+use wt_refute::{BuildEnd, MAX_NODES, Refuted, build_tree_in, count_nodes};
 use wt_tile::Axis;
-
-/// The greatest number of nodes of all trees together.
-pub const MAX_NODES: usize = 1_048_576;
 
 /// Refutations with their trees, and the nodes of all trees that were built: at most one more than may be
 /// kept. Once there are too many, no further tree is kept.
@@ -24,7 +22,7 @@ pub struct Forest {
 /// A sum of nodes, where no more than one beyond the limit is counted.
 fn add_nodes(nodes: usize, more: usize) -> usize
     requires { nodes ≤ MAX_NODES + 1 }
-    ensures { result ≡ min (nodes + more) (MAX_NODES + 1) }
+    ensures { result ≡ with_more nodes more }
 {
     (nodes + more.min(MAX_NODES + 1)).min(MAX_NODES + 1)
 }
@@ -51,8 +49,8 @@ fn plant(
     requires radius { radius ≤ 4 }
     requires pair { IsRefutable sides.now.tiles.now axis radius pair }
     requires few { forest.old.nodes ≤ MAX_NODES + 1 }
-    ensures nodes { OnOk result (forest.new.nodes ≡ min (forest.old.nodes + node_count (tree_at sides.now.tiles.now radius axis pair)) (MAX_NODES + 1)) }
-    ensures entries { OnOk result (forest.new.nodes ≤ MAX_NODES → forest.new.entries.items ≡ forest.old.entries.items ++ entry_of sides.now.tiles.now radius axis pair ∷ []) }
+    ensures nodes { OnOk result (forest.new.nodes ≡ with_more forest.old.nodes (node_count (tree_at sides.now.tiles.now radius axis pair))) }
+    ensures entries { OnOk result (HasGrownBy (entry_of sides.now.tiles.now radius axis pair ∷ []) forest.old forest.new) }
     ensures unspent { OnOk result (spent_at sides.now.tiles.now radius budget axis pair ≡ None) }
     ensures refused { IfErr result (IsReason (spent_at sides.now.tiles.now radius budget axis pair)) }
 {
@@ -94,8 +92,8 @@ pub fn plant_all(
     requires radius { radius ≤ 4 }
     requires pairs { All (IsRefutable sides.now.tiles.now axis radius) pairs.now }
     requires few { forest.old.nodes ≤ MAX_NODES + 1 }
-    ensures nodes { OnOk result (forest.new.nodes ≡ min (forest.old.nodes + nodes_of sides.now.tiles.now radius axis pairs.now) (MAX_NODES + 1)) }
-    ensures entries { OnOk result (forest.new.nodes ≤ MAX_NODES → forest.new.entries.items ≡ forest.old.entries.items ++ map (entry_of sides.now.tiles.now radius axis) pairs.now) }
+    ensures nodes { OnOk result (forest.new.nodes ≡ with_more forest.old.nodes (nodes_of sides.now.tiles.now radius axis pairs.now)) }
+    ensures entries { OnOk result (HasGrownBy (map (entry_of sides.now.tiles.now radius axis) pairs.now) forest.old forest.new) }
     ensures unspent { OnOk result (first_in (spent_at sides.now.tiles.now radius budget axis) pairs.now ≡ None) }
     ensures refused { IfErr result (IsReason (first_in (spent_at sides.now.tiles.now radius budget axis) pairs.now)) }
 {

@@ -1,5 +1,6 @@
 //! What classes and derived steps are, as theorems: each is the contract of a function that does nothing.
 ghost use Rattle.std.specs.Prelude.{◌≡◌, ◌↔◌, ◌+◌, ◌<◌, ◌≤◌, ℕ, Bool, true, List, [], length, All, Contains, None, Some, slice_get, slice_index_or};
+ghost use Rattle.wt_step.specs.Limits.{IsSlimStep};
 ghost use Rattle.wt_grid.specs.declared.limits.TheConstants.{MAX_TILES};
 ghost use Rattle.wt_grid.specs.Axes.{other};
 ghost use Rattle.wt_grid.specs.declared.axis.Side.{Side};
@@ -16,9 +17,8 @@ ghost use Rattle.wt_step.specs.Faults.{step_fault};
 ghost use Rattle.wt_window.specs.Surrounded.{Tells, on};
 ghost use Rattle.wt_marker.specs.Classes.{IsKeptClass, BeginsBelow, kept_classes};
 ghost use Rattle.wt_marker.specs.Coarse.{number_tiles};
-ghost use Rattle.wt_marker.specs.declared.forest.TheConstants.{MAX_NODES};
+ghost use Rattle.wt_refute.specs.declared.limits.TheConstants.{MAX_NODES};
 ghost use Rattle.wt_marker.specs.Derived.{Plan, plan, IsPlan, derived, derive_fault, dominoes, images_of, nodes_in, refuted_pairs, IsRefutable};
-ghost use Rattle.wt_marker.specs.Slim.{IsSlimStep};
 
 /// The listed classes are exactly the kept ones, by their least tiles.
 pub fn classes_are_kept()
