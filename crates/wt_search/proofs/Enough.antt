@@ -1,5 +1,6 @@
 -- With a budget that is enough no search ends as spent.
 use Rattle.std.proofs.Common.{arith, ◌≡◌, ◌<◌, ◌≤◌, ℕ, zero, suc, List, [], ◌∷◌, ◌++◌, length, get_or, drop, Option, None, Some, option_map, Bool, true, false, nat_lt, nat_eq, if◌then◌else◌, refl, sym, ◌∙◌, inl, inr}
+use Rattle.wt_chain.specs.Limits.{nodes_with}
 use Rattle.std.specs.Prelude.{Result, Ok, Err}
 use Rattle.std.proofs.lemmas.Bool.Decides.{nat_tests}
 use Rattle.wt_grid.specs.declared.axis.Axis.{Axis}
@@ -23,7 +24,7 @@ use Rattle.wt_marker.proofs.Windows.{refutable}
 use Rattle.wt_search.specs.declared.end.SearchEnd.{SearchEnd}
 use Rattle.wt_search.specs.declared.end.SearchEnd.TheVariants as ends
 use Rattle.wt_search.specs.Asked.{Asked, dominoes_of, plan_at, at_level, step_or_end, first_step, step_at}
-use Rattle.wt_search.specs.Found.{nodes_with, limited, meeting, closed_by, Progress, going, over, after_meeting, with_nodes, with_step, next, progress, outcome, found, SpentAfter, MayEnd}
+use Rattle.wt_search.specs.Found.{limited, meeting, closed_by, Progress, going, over, after_meeting, with_nodes, with_step, next, progress, outcome, found, SpentAfter, MayEnd}
 use Rattle.wt_search.specs.Enough.{HasEnough, HasEnoughAfter, IsEnough, IsNotSpent}
 use Rattle.wt_search.proofs.Levels.{surroundable_tells}
 

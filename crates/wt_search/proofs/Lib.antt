@@ -6,3 +6,11 @@ pub mod Ends
 pub mod Small
 pub mod Enough
 pub mod Sound
+pub mod Refuting
+pub mod Filtered
+pub mod LightEntries
+pub mod LightSteps
+pub mod LightChains
+pub mod LightLeast
+pub mod LightCounts
+pub mod Lightened

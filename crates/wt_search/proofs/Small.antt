@@ -1,5 +1,6 @@
 -- A chain that is found is small.
 use Rattle.std.proofs.Common.{arith, ◌≡◌, ◌≤◌, ◌+◌, ℕ, zero, suc, List, [], ◌∷◌, ◌++◌, drop, Option, None, Some, if◌then◌else◌, is_none, refl, sym, ◌∙◌, ap, subst}
+use Rattle.wt_chain.specs.Limits.{nodes_with_lost, nodes_through, nodes_with, IsSmallEnd}
 use Rattle.std.specs.Prelude.{Result, Ok, Err}
 use Rattle.wt_tile.specs.declared.tile.TileList.{TileList}
 use Rattle.wt_grid.proofs.First.{first_found}
@@ -13,8 +14,7 @@ use Rattle.wt_chain.specs.Faults.{enough, growth_fault, least_expansion}
 use Rattle.wt_search.specs.declared.end.SearchEnd.{SearchEnd}
 use Rattle.wt_search.specs.declared.limits.TheConstants.{MAX_NODES}
 use Rattle.wt_search.specs.Asked.{Asked, step_at}
-use Rattle.wt_search.specs.Found.{nodes_with, limited, meeting, closed_by, closed, Progress, going, over, after_meeting, with_nodes, with_step, next, progress, outcome, found}
-use Rattle.wt_search.specs.Small.{nodes_with_lost, nodes_through, IsSmall}
+use Rattle.wt_search.specs.Found.{limited, meeting, closed_by, closed, Progress, going, over, after_meeting, with_nodes, with_step, next, progress, outcome, found}
 use Rattle.wt_search.proofs.Nodes.{limited_at}
 use Rattle.wt_search.proofs.Ends.{met_level}
 
@@ -32,6 +32,11 @@ few_turns loop renaming n e h =
     by : (x : Option Refusal) (m : ℕ) → (if is_none x then Some m else None) ≡ Some e → m ≡ e
     by None m h = cc
     by (Some x) m h = absurd cc
+
+-- the trees keep the limit of nodes, and the loop that of turns
+pub record IsSmall (c : RawChain) : Type 0 where
+  pub nodes : nodes_through 0 c.steps ≤ MAX_NODES
+  pub end : IsSmallEnd c.steps c.end
 
 abbrev IsSmallSo : Progress → Type 0
 IsSmallSo (going links nodes) = (nodes ≡ nodes_through 0 links) × (nodes ≤ MAX_NODES)

@@ -1,5 +1,7 @@
 -- What is found is good, and its steps keep the limits of a text.
 use Rattle.std.proofs.Common.{arith, ◌≡◌, ◌⊎◌, ◌<◌, ◌≤◌, ℕ, zero, suc, List, [], ◌∷◌, ◌++◌, length, length-append, slice_get, drop, Option, None, Some, refl, ◌∙◌, ap, subst, inl, inr}
+use Rattle.wt_chain.specs.Limits.{AreSlimSteps, nodes_with}
+use Rattle.wt_step.specs.Limits.{IsSlimStep}
 use Rattle.std.specs.Prelude.{Result, Ok, Err}
 use Rattle.wt_grid.specs.declared.axis.Axis.TheVariants.{One, Two}
 use Rattle.wt_tile.specs.declared.tile.TileList.{TileList}
@@ -13,7 +15,7 @@ use Rattle.wt_step.specs.Links.{link_fault, coarse_of}
 use Rattle.wt_chain.specs.declared.raw.RawChain.{RawChain}
 use Rattle.wt_chain.specs.declared.raw.End.TheVariants.{Loop}
 use Rattle.wt_chain.specs.declared.raw.Version.{Version}
-use Rattle.wt_chain.specs.Sets.{last_set, first_count}
+use Rattle.wt_chain.specs.Sets.{last_set, first_count, BeginsWith}
 use Rattle.wt_chain.specs.Chains.{IsOpen}
 use Rattle.wt_chain.specs.Versions.{version_of}
 use Rattle.wt_chain.specs.Faults.{least_expansion, chain_fault}
@@ -21,14 +23,12 @@ use Rattle.wt_chain.proofs.Grown.{coarse_good}
 use Rattle.wt_chain.proofs.Open.{one_open, more_open, ended}
 use Rattle.wt_marker.specs.declared.end.DeriveEnd.{DeriveEnd}
 use Rattle.wt_marker.specs.Derived.{Plan, IsPlan, derived, derive_fault}
-use Rattle.wt_marker.specs.Slim.{IsSlimStep}
 use Rattle.wt_marker.proofs.Callers.{listed_plan}
 use Rattle.wt_marker.proofs.Deriving.{good_plan}
 use Rattle.wt_marker.proofs.SlimSteps.{slim_step}
 use Rattle.wt_search.specs.declared.end.SearchEnd.{SearchEnd}
 use Rattle.wt_search.specs.Asked.{Asked, axis_at, dominoes_of, classes_at, plan_at, step_or_end, first_step, step_at}
-use Rattle.wt_search.specs.Found.{nodes_with, limited, meeting, closed, closed_by, Progress, going, over, after_meeting, with_nodes, with_step, next, progress, outcome, found}
-use Rattle.wt_search.specs.Small.{AreSlimSteps}
+use Rattle.wt_search.specs.Found.{limited, meeting, closed, closed_by, Progress, going, over, after_meeting, with_nodes, with_step, next, progress, outcome, found}
 use Rattle.wt_search.proofs.Levels.{surroundable_tells, first_contained}
 use Rattle.wt_search.proofs.Pushing.{may_push}
 use Rattle.wt_search.proofs.Closing.{end_closed}
@@ -76,10 +76,15 @@ slim_on [] step h k = (k, tt)
 slim_on (Marker x ∷ xs) step h k = (h.0, slim_on xs step h.1 k)
 slim_on (Restrict x ∷ xs) step h k = absurd h
 
+begins_on : (set : TileList) (links : List RawLink) (step : RawStep) → BeginsWith set links → step.fine ≡ last_set set links → BeginsWith set (links ++ Marker step ∷ [])
+begins_on set [] step h e = e
+begins_on set (x ∷ xs) step h e = h
+
 -- so many steps behind a set, all of them good and slim
 record AreSound (set : TileList) (level : ℕ) (links : List RawLink) : Type 0 where
   good : set_fault (last_set set links) ≡ None
   run : (links ≡ []) ⊎ IsOpen links (version_of links)
+  begins : BeginsWith set links
   slim : AreSlimSteps links
   long : length links ≡ level
 
@@ -93,6 +98,7 @@ sound_on set level links step lt h d =
     record {
       good = ap set_fault (last_on set links (Marker step)) ∙ coarse_good (Marker step) d.good;
       run = inr (run h.run);
+      begins = begins_on set links step h.begins d.fine;
       slim = slim_on links step h.slim d.slim;
       long = length-append links (Marker step ∷ []) ∙ omega arith;
     }
@@ -105,16 +111,16 @@ sound_on set level links step lt h d =
 
 abbrev IsSoundSo : TileList → ℕ → Progress → Type 0
 IsSoundSo set level (going links nodes) = AreSound set level links
-IsSoundSo set level (over (Ok c)) = (chain_fault c ≡ None) × AreSlimSteps c.steps
+IsSoundSo set level (over (Ok c)) = (chain_fault c ≡ None) × BeginsWith set c.steps × AreSlimSteps c.steps
 IsSoundSo set level (over (Err e)) = Unit {0}
 
-closed_sound : (set : TileList) (level n : ℕ) (links : List RawLink) (m : ℕ × List ℕ) → IsOpen links (version_of links) → AreSlimSteps links → meeting links ≡ Some m
+closed_sound : (set : TileList) (level n : ℕ) (links : List RawLink) (m : ℕ × List ℕ) → IsOpen links (version_of links) → BeginsWith set links → AreSlimSteps links → meeting links ≡ Some m
     → IsSoundSo set n (over (closed links m))
-closed_sound set level n links m o slim e = by (least_expansion (drop m.0 links) m.1 (first_count (drop m.0 links))) refl
+closed_sound set level n links m o begins slim e = by (least_expansion (drop m.0 links) m.1 (first_count (drop m.0 links))) refl
   where
     by : (x : Option ℕ) → least_expansion (drop m.0 links) m.1 (first_count (drop m.0 links)) ≡ x → IsSoundSo set n (over (closed_by links m x))
     by None h = tt
-    by (Some k) h = (ended links (version_of links) (Loop m.0 m.1 k) o (end_closed links m.0 m.1 k (met_is_renamed links m e) h), slim)
+    by (Some k) h = (ended links (version_of links) (Loop m.0 m.1 k) o (end_closed links m.0 m.1 k (met_is_renamed links m e) h), begins, slim)
 
 met_sound : (set : TileList) (level nodes : ℕ) (links : List RawLink) → AreSound set (suc level) links → IsSoundSo set (suc level) (after_meeting links nodes (meeting links))
 met_sound set level nodes links h = by (meeting links) refl
@@ -125,7 +131,7 @@ met_sound set level nodes links h = by (meeting links) refl
 
     by : (m : Option (ℕ × List ℕ)) → meeting links ≡ m → IsSoundSo set (suc level) (after_meeting links nodes m)
     by None e = h
-    by (Some m) e = closed_sound set level (suc level) links m (opened h.run) h.slim e
+    by (Some m) e = closed_sound set level (suc level) links m (opened h.run) h.begins h.slim e
 
 module _ (s : Asked) (set : TileList) (small : s.radius ≤ 4) (good : set_fault set ≡ None) where
   step_sound : (level nodes : ℕ) (links : List RawLink) (r : Result RawStep SearchEnd) → level < 32 → AreSound set level links → step_at s level (last_set set links) ≡ r
@@ -143,13 +149,13 @@ module _ (s : Asked) (set : TileList) (small : s.radius ≤ 4) (good : set_fault
   next_sound level (over (Err e)) lt h = tt
 
   sound_so : (level : ℕ) → level ≤ 32 → IsSoundSo set level (progress s set level)
-  sound_so zero le = record { good = good; run = inl refl; slim = tt; long = refl }
+  sound_so zero le = record { good = good; run = inl refl; begins = tt; slim = tt; long = refl }
   sound_so (suc level) le = next_sound level (progress s set level) (omega arith) (sound_so level (omega arith))
 
-  pub sound_found : (levels : ℕ) (c : RawChain) → levels ≤ 32 → found s set levels ≡ Ok c → (chain_fault c ≡ None) × AreSlimSteps c.steps
+  pub sound_found : (levels : ℕ) (c : RawChain) → levels ≤ 32 → found s set levels ≡ Ok c → (chain_fault c ≡ None) × BeginsWith set c.steps × AreSlimSteps c.steps
   sound_found levels c le e = by (progress s set levels) (sound_so levels le) e
     where
-      by : (p : Progress) → IsSoundSo set levels p → outcome p ≡ Ok c → (chain_fault c ≡ None) × AreSlimSteps c.steps
+      by : (p : Progress) → IsSoundSo set levels p → outcome p ≡ Ok c → (chain_fault c ≡ None) × BeginsWith set c.steps × AreSlimSteps c.steps
       by (going links nodes) h k = absurd cc
-      by (over (Ok x)) h k = let same : x ≡ c = cc in subst (λ (y : RawChain). (chain_fault y ≡ None) × AreSlimSteps y.steps) same h
+      by (over (Ok x)) h k = let same : x ≡ c = cc in subst (λ (y : RawChain). (chain_fault y ≡ None) × BeginsWith set y.steps × AreSlimSteps y.steps) same h
       by (over (Err x)) h k = absurd cc

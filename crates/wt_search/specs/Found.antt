@@ -1,5 +1,6 @@
 -- The chain that a search finds, or why it finds none.
 use Rattle.std.specs.Prelude.{ℕ, zero, suc, ◌+◌, ◌≡◌, ◌⊎◌, ◌<◌, Option, None, Some, option_map, List, [], ◌∷◌, ◌++◌, length, drop, nat_lt, if◌then◌else◌, Result, Ok, Err, IfOk, IfErr}
+use Rattle.wt_chain.specs.Limits.{nodes_with}
 use Rattle.wt_tile.specs.declared.tile.TileList.{TileList}
 use Rattle.wt_grid.specs.First.{first_from}
 use Rattle.wt_refute.specs.declared.tree.Refuted.{Refuted}
@@ -18,11 +19,6 @@ use Rattle.wt_search.specs.declared.end.SearchEnd.{SearchEnd}
 use Rattle.wt_search.specs.declared.end.SearchEnd.TheVariants.{TooManyNodes, NotGrowing, Levels, OutOfMemory}
 use Rattle.wt_search.specs.declared.limits.TheConstants.{MAX_NODES}
 use Rattle.wt_search.specs.Asked.{Asked, step_at, IsSpent, EndsAtZero}
-
--- the nodes so far, with those of these refutations
-abbrev pub nodes_with : ℕ → List Refuted → ℕ
-nodes_with nodes [] = nodes
-nodes_with nodes (r ∷ rs) = nodes_with (nodes + node_count (refutation r.tree)) rs
 
 -- so many nodes, where they are within the limit
 abbrev pub limited : ℕ → Option ℕ

@@ -1,5 +1,6 @@
 pub mod Asked
 pub mod Found
 pub mod States
-pub mod Small
 pub mod Enough
+pub mod Light
+pub mod Lightened

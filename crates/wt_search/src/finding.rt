@@ -1,5 +1,6 @@
 //! The search, level by level.
 ghost use Rattle.std.specs.Prelude.{◌≡◌, ◌⊎◌, ◌<◌, ◌≤◌, ◌∷◌, ◌++◌, ◌+◌, [], ℕ, List, length, drop, option_map, IfSome, IfOk, IfErr, Some, None, Ok, Err};
+ghost use Rattle.wt_chain.specs.Limits.{nodes_with};
 ghost use Rattle.wt_refute.specs.Refutation.{node_count};
 ghost use Rattle.wt_refute.specs.View.{refutation};
 ghost use Rattle.wt_step.specs.declared.raw.RawLink.TheVariants.{Marker};
@@ -7,7 +8,7 @@ ghost use Rattle.wt_chain.specs.Sets.{IsRenamed, last_set, set_at};
 ghost use Rattle.wt_chain.specs.Chains as chains;
 ghost use Rattle.wt_search.specs.declared.end.SearchEnd.TheVariants as ends;
 ghost use Rattle.wt_search.specs.Asked.{asked, IsSpent, EndsAtZero};
-ghost use Rattle.wt_search.specs.Found.{nodes_with, limited, after_meeting, at_start, meeting, going, over, next, MayAnswerSearch, links_of};
+ghost use Rattle.wt_search.specs.Found.{limited, after_meeting, at_start, meeting, going, over, next, MayAnswerSearch, links_of};
 ghost use Rattle.wt_search.specs.Found as spec;
 ghost use Rattle.wt_search.specs.States.{state_of, HasComeTo};
 
@@ -16,16 +17,16 @@ use crate::{MAX_AXES, MAX_LEVELS, MAX_NODES, SearchEnd};
 use std::alloc::{AllocError, Global};
 use wt_bijection::equivalent;
 use wt_chain::{Accepted, Chain, PushFault};
-use wt_refute::{Refuted, count_nodes};
+use wt_refute::{Refuted, Tree, count_nodes};
 use wt_step::{Link, Step};
 use wt_tile::{Axis, SetRef, Side};
 
-/// The nodes so far with those of one more refutation, or none where they are more than the limit.
-fn nodes_after(nodes: usize, entry: &Refuted) -> Option<usize>
+/// The nodes so far with those of one more tree, or none where they are more than the limit.
+pub fn nodes_after(nodes: usize, tree: &Tree) -> Option<usize>
     requires { nodes ≤ MAX_NODES }
-    ensures { result ≡ limited (nodes + node_count (refutation entry.now.tree)) }
+    ensures { result ≡ limited (nodes + node_count (refutation tree.now)) }
 {
-    let count = count_nodes(&entry.tree);
+    let count = count_nodes(tree);
     if count > MAX_NODES - nodes {
         return None;
     }
@@ -40,7 +41,7 @@ fn more_nodes(nodes: usize, refuted: &[Refuted]) -> Option<usize>
 {
     let mut sum = nodes;
     for entry in refuted {
-        match nodes_after(sum, entry) {
+        match nodes_after(sum, &entry.tree) {
             None => return None,
             Some(more) => sum = more,
         }

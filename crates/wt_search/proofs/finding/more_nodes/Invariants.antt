@@ -1,6 +1,6 @@
 use Rattle.std.proofs.Common.{◌≡◌, ◌≤◌, drop}
+use Rattle.wt_chain.specs.Limits.{nodes_with}
 use Rattle.wt_search.specs.declared.limits.TheConstants.{MAX_NODES}
-use Rattle.wt_search.specs.Found.{nodes_with}
 use Rattle.wt_search.proofs.finding.more_nodes.Given as goal
 
 abbrev pub invariant-loop-entry : goal.invariant-loop-entry

@@ -1,0 +1,8 @@
+use Rattle.wt_search.proofs.Small.{small_found}
+use Rattle.wt_search.proofs.Sound.{sound_found}
+use Rattle.wt_search.proofs.laws.found_chains_are_within_limits.Goals as goal
+
+pub returns : goal.returns
+returns c = λ s set levels chain radius few good e.
+    let small = small_found s set levels chain e in
+    record { steps = (sound_found s set radius good levels chain few e).2; nodes = small.nodes; end = small.end }
