@@ -1,0 +1,14 @@
+pub mod Following
+pub mod WrapFaults
+pub mod Repeats
+pub mod RepeatedCells
+pub mod NoWraps
+pub mod Closing
+pub mod WrapGrids
+pub mod Turned
+pub mod Searching
+pub mod Sizes
+pub mod Ends
+pub mod Paired
+pub mod Cylinders
+pub mod OneLeast
