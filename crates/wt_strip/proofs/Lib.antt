@@ -3,3 +3,11 @@ pub mod Towers
 pub mod Faults
 pub mod Walked
 pub mod Uponed
+pub mod Gathers
+pub mod Merges
+pub mod Nexts
+pub mod Rises
+pub mod Strips
+pub mod Leasts
+pub mod TextLaws
+pub mod Written

@@ -18,7 +18,7 @@ module _ (ts : List Tile) where
   pub cell_at : (g : Grid) (x y : ℕ) → x < g.width → slice_index (row_of g y) x ≡ cell g x y
   cell_at g x y lt = get_or-listed g.width x (λ x. cell g x y) 0 lt
 
-  valid_row : (g : Grid) → IsPattern ts g → (y : ℕ) → y < g.height → IsRow ts g.width (row_of g y)
+  pub valid_row : (g : Grid) → IsPattern ts g → (y : ℕ) → y < g.height → IsRow ts g.width (row_of g y)
   valid_row g p y ly = record {
     long = long;
     tiles = λ x lx. let e = cell_at g x y lx in let b = p.1 x y lx ly in omega (arith, e, b);
@@ -28,6 +28,9 @@ module _ (ts : List Tile) where
       long : length (row_of g y) ≡ g.width
       long = length-listed g.width (λ x. cell g x y)
 
+  pub valid_under : (g : Grid) → IsPattern ts g → (y : ℕ) → suc y < g.height → IsUnder ts g.width (row_of g y) (row_of g (suc y))
+  valid_under g p y ly = λ x lx. rw (cell_at g x y lx, cell_at g x (suc y) lx) (p.2 Two y x ly lx)
+
   -- row y of a valid pattern is in layer y
   pub upon : (g : Grid) → IsPattern ts g → (y : ℕ) → y < g.height → IsInLayer ts g.width y (row_of g y)
   upon g p zero ly = valid_row g p 0 ly
@@ -36,7 +39,7 @@ module _ (ts : List Tile) where
     (
       row_of g y,
       upon g p y (omega arith),
-      λ x lx. rw (cell_at g x y lx, cell_at g x (suc y) lx) (p.2 Two y x ly lx),
+      valid_under g p y ly,
     ),
   )
 

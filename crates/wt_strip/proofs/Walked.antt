@@ -7,7 +7,7 @@ use Rattle.wt_tile.specs.declared.tile.Tile.{Tile}
 use Rattle.wt_grid.specs.declared.axis.Axis.TheVariants.{One, Two}
 use Rattle.wt_tile.specs.Matching.{matches}
 use Rattle.wt_strip.specs.Layers.{IsRow, IsUnder}
-use Rattle.wt_strip.specs.Walks.{is_allowed, IsWay, AreAlike}
+use Rattle.wt_strip.specs.Walks.{is_allowed, IsWay, AreAlike, IsNotBehind}
 
 pub was_true : (b : Bool) → not b ≡ false → b ≡ true
 was_true true e = refl
@@ -29,6 +29,12 @@ agree_on x t q row start lt same agree here = λ k lk. elim (cases_lt k x) [
 -- the first columns are kept when the next is set and what follows is walked
 pub kept : (x t : ℕ) (new row start : List ℕ) → AreAlike (x + 1) new (set row x t) → AreAlike x row start → AreAlike x new start
 kept x t new row start after same = λ k lk. after k (omega arith) ∙ get_or-set_other row x k t 0 (λ e. absurd (omega (arith, e))) ∙ same k lk
+
+-- a row with a lower tile in column x, where rows begin alike, comes first
+pub ahead : (w x t : ℕ) (new row start q : List ℕ) → x < w → x < length row → AreAlike (x + 1) new (set row x t) → AreAlike x row start → AreAlike x q start → t < slice_index q x → IsNotBehind w new q
+ahead w x t new row start q lw lx after same agree lt =
+    let here : slice_index new x ≡ t = after x (omega arith) ∙ get_or-set_same row x t 0 lx in
+    inr (x, lw, (λ k lk. kept x t new row start after same k lk ∙ sym (agree k lk)), omega (arith, here, lt))
 
 -- a tile that may not come isn't that of a row that goes on
 pub barred : (ts : List Tile) (allowed : List (List Bool)) (w x t : ℕ) (q row start : List ℕ) → x < w → AreAlike x row start → AreAlike x q start → IsWay ts allowed w q → slice_index q x ≡ t

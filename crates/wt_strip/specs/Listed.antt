@@ -31,6 +31,20 @@ pub record IsListOf (In : List ℕ → Type 0) (w : ℕ) (cells : List ℕ) : Ty
   pub right : (r : ℕ) → r < rows_in w cells → In (row_at w cells r)
   pub whole : (q : List ℕ) → In q → IsListed w cells q
 
+-- whole rows, strictly ascending
+pub record IsSorted (w : ℕ) (cells : List ℕ) : Type 0 where
+  pub whole : length cells ≡ rows_in w cells * w
+  pub ascending : IsAscending w cells (rows_in w cells)
+
+-- the cells are a set of rows, as whole rows in ascending order
+pub record IsLayer (In : List ℕ → Type 0) (w : ℕ) (cells : List ℕ) : Type 0 where
+  pub sorted : IsSorted w cells
+  pub lists : IsListOf In w cells
+
+-- a set has more than so many rows of width w
+abbrev pub HasMore : (List ℕ → Type 0) → ℕ → ℕ → Type 0
+HasMore In w room = (cells : List ℕ) × IsSorted w cells × ((r : ℕ) → r < rows_in w cells → In (row_at w cells r)) × (room < rows_in w cells)
+
 -- the valid rows upon listed rows; upon no layer, all valid rows
 abbrev pub IsUpon : List Tile → ℕ → ℕ → List ℕ → List ℕ → Type 0
 IsUpon ts w zero below q = IsRow ts w q

@@ -1,5 +1,5 @@
 -- Rows that are filled column by column, with the tiles that each column allows.
-use Rattle.std.specs.Prelude.{◌≡◌, ℕ, suc, ◌<◌, ◌≤◌, List, [], length, slice_index, slice_index_or, Bool, true, false}
+use Rattle.std.specs.Prelude.{◌≡◌, ◌⊎◌, ℕ, suc, ◌<◌, ◌≤◌, List, [], length, slice_index, slice_index_or, Bool, true, false}
 use Rattle.wt_tile.specs.declared.tile.Tile.{Tile}
 use Rattle.wt_grid.specs.declared.axis.Axis.TheVariants.{One}
 use Rattle.wt_tile.specs.Matching.{matches}
@@ -22,3 +22,7 @@ pub record IsWay (ts : List Tile) (allowed : List (List Bool)) (n : ℕ) (q : Li
 -- two rows agree in the first n columns
 abbrev pub AreAlike : ℕ → List ℕ → List ℕ → Type 0
 AreAlike n p q = (x : ℕ) → x < n → slice_index p x ≡ slice_index q x
+
+-- p comes at latest with q: they agree in w columns, or p has the lower tile where they first differ
+abbrev pub IsNotBehind : ℕ → List ℕ → List ℕ → Type 0
+IsNotBehind w p q = AreAlike w p q ⊎ ((x : ℕ) × (x < w) × AreAlike x p q × (slice_index p x < slice_index q x))

@@ -1,5 +1,7 @@
 //! What layers say of patterns, as theorems: each is the contract of a function that does nothing.
-ghost use Rattle.std.specs.Prelude.{◌≡◌, ◌≤◌, ℕ, suc, List, length};
+ghost use Rattle.std.specs.Prelude.{◌≡◌, ◌≤◌, ℕ, suc, List, length, Ok};
+ghost use Rattle.wt_text.specs.Lines.{lines, bytes_of};
+ghost use Rattle.wt_text.specs.Readers.{whole_text};
 ghost use Rattle.wt_tile.specs.declared.tile.Tile.{Tile};
 ghost use Rattle.wt_grid.specs.Grid.{Grid};
 ghost use Rattle.wt_pattern.specs.Patterns.{IsPattern};
@@ -7,6 +9,7 @@ ghost use Rattle.wt_strip.specs.declared.layers.Layers.{Layers};
 ghost use Rattle.wt_strip.specs.declared.layers.StripFault.{StripFault};
 ghost use Rattle.wt_strip.specs.Layers.{IsInLayer};
 ghost use Rattle.wt_strip.specs.Exact.{IsExact, IsStripFault};
+ghost use Rattle.wt_strip.specs.StripText.{strip_part, strip_lines, HasText, IsStripText};
 
 /// A valid pattern of a width and a height exists exactly where the layer of that height isn't empty.
 pub fn layers_are_patterns()
@@ -23,4 +26,11 @@ pub fn exact_layers_forbid()
 pub fn faults_are_one()
     ensures apart { (ts : List Tile) (l : Layers) (f : StripFault) → IsExact ts l → IsStripFault ts l f → ⊥ }
     ensures one { (ts : List Tile) (l : Layers) (f g : StripFault) → IsStripFault ts l f → IsStripFault ts l g → f ≡ g }
+{}
+
+/// A text is read as layers exactly where it is the text of these layers, and they are within the limits of layers and
+/// of whole rows of numbers up to `MOST`.
+pub fn strip_texts_are_exact()
+    ensures found { (bytes : List ℕ) (l : Layers) → whole_text strip_part (lines bytes) ≡ Ok l → IsStripText l bytes }
+    ensures again { (l : Layers) → HasText l → whole_text strip_part (lines (bytes_of (strip_lines l))) ≡ Ok l }
 {}

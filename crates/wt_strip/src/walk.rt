@@ -4,7 +4,7 @@ ghost use Rattle.wt_tile.specs.Matching;
 ghost use Rattle.wt_tile.specs.Matching.{matches};
 ghost use Rattle.wt_strip.specs.Layers.{IsRow, IsUnder};
 ghost use Rattle.wt_strip.specs.Listed.{rows_in, IsAscending, IsListed};
-ghost use Rattle.wt_strip.specs.Walks.{column_allows, is_allowed, IsWay, AreAlike};
+ghost use Rattle.wt_strip.specs.Walks.{column_allows, is_allowed, IsWay, AreAlike, IsNotBehind};
 
 use crate::limits::MAX_COLUMNS;
 use crate::rows::is_listed;
@@ -54,7 +54,13 @@ pub fn all_allowed() -> Columns
 }
 
 /// Whether a tile may come behind the first x cells of a row.
-fn may_come(tiles: &[Tile], allowed: &Columns, row: &[u16; MAX_COLUMNS], x: usize, t: usize) -> bool
+pub fn may_come(
+    tiles: &[Tile],
+    allowed: &Columns,
+    row: &[u16; MAX_COLUMNS],
+    x: usize,
+    t: usize,
+) -> bool
     requires few { length tiles.now ≤ MAX_TILES }
     requires inside { x < MAX_COLUMNS }
     requires tile { t < length tiles.now }
@@ -90,6 +96,8 @@ fn misses_from(
     ensures long { length row.new ≡ MAX_COLUMNS }
     ensures same { AreAlike x row.new row.old }
     ensures missed { result ≡ true → IsWay tiles.now allowed.now w row.new × (IsListed w cells.now (take w row.new) → ⊥) }
+    ensures first { result ≡ true → (q : List ℕ) → length q ≡ w → IsWay tiles.now allowed.now w q → AreAlike x q row.old → (IsListed w cells.now q → ⊥)
+        → IsNotBehind w row.new q }
     ensures none { result ≡ false → (q : List ℕ) → length q ≡ w → IsWay tiles.now allowed.now w q → AreAlike x q row.old → IsListed w cells.now q }
 {
     if x == w {
@@ -142,7 +150,7 @@ fn narrowed(tiles: &[Tile], column: &Column, next: &Column) -> Column
 }
 
 /// The tiles of the columns from which a row can go on to the right end. Without this a walk could turn back too often to end.
-fn pruned(tiles: &[Tile], w: usize, allowed: &Columns) -> Columns
+pub fn pruned(tiles: &[Tile], w: usize, allowed: &Columns) -> Columns
     requires few { length tiles.now ≤ MAX_TILES }
     requires wide { 1 ≤ w }
     requires narrow { w ≤ MAX_COLUMNS }
@@ -158,6 +166,27 @@ fn pruned(tiles: &[Tile], w: usize, allowed: &Columns) -> Columns
     left
 }
 
+/// Whether a row that the columns allow isn't listed. The first w tiles of `row` are the least such row then.
+pub fn first_missing(
+    tiles: &[Tile],
+    w: usize,
+    allowed: &Columns,
+    cells: &[u16],
+    row: &mut [u16; MAX_COLUMNS],
+) -> bool
+    requires few { length tiles.now ≤ MAX_TILES }
+    requires wide { 1 ≤ w }
+    requires narrow { w ≤ MAX_COLUMNS }
+    requires ascending { IsAscending w cells.now (rows_in w cells.now) }
+    ensures long { length row.new ≡ MAX_COLUMNS }
+    ensures missed { result ≡ true → IsWay tiles.now allowed.now w row.new × (IsListed w cells.now (take w row.new) → ⊥) }
+    ensures first { result ≡ true → (q : List ℕ) → length q ≡ w → IsWay tiles.now allowed.now w q → (IsListed w cells.now q → ⊥) → IsNotBehind w row.new q }
+    ensures none { result ≡ false → (q : List ℕ) → length q ≡ w → IsWay tiles.now allowed.now w q → IsListed w cells.now q }
+{
+    let left = pruned(tiles, w, allowed);
+    misses_from(tiles, w, &left, cells, row, 0)
+}
+
 /// Whether a row that the columns allow isn't listed.
 pub fn misses(tiles: &[Tile], w: usize, allowed: &Columns, cells: &[u16]) -> bool
     requires few { length tiles.now ≤ MAX_TILES }
@@ -167,7 +196,6 @@ pub fn misses(tiles: &[Tile], w: usize, allowed: &Columns, cells: &[u16]) -> boo
     ensures missed { result ≡ true → (q : List ℕ) × (length q ≡ w) × IsWay tiles.now allowed.now w q × (IsListed w cells.now q → ⊥) }
     ensures none { result ≡ false → (q : List ℕ) → length q ≡ w → IsWay tiles.now allowed.now w q → IsListed w cells.now q }
 {
-    let left = pruned(tiles, w, allowed);
     let mut row = [0u16; MAX_COLUMNS];
-    misses_from(tiles, w, &left, cells, &mut row, 0)
+    first_missing(tiles, w, allowed, cells, &mut row)
 }

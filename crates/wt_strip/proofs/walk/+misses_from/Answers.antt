@@ -1,6 +1,6 @@
 use Rattle.std.proofs.Common.{arith, ◌≡◌, ◌<◌, ◌≤◌, ℕ, ap, ◌∙◌, inl, inr, slice_index, length, subst, List}
 use Rattle.std.proofs.lemmas.Bool.{cases_lt}
-use Rattle.wt_strip.proofs.Walked.{was_true, whole_row, agree_on, kept, barred}
+use Rattle.wt_strip.proofs.Walked.{was_true, whole_row, agree_on, kept, ahead, barred}
 use Rattle.wt_strip.specs.Walks.{AreAlike}
 use Rattle.wt_strip.proofs.walk.+misses_from.Goals.{then-may_come+else-misses_from, else-may_come}
 use Rattle.wt_strip.proofs.walk.+misses_from.Goals as goal
@@ -12,6 +12,24 @@ returns-then-x-w-clause-none t c = λ e q long way agree.
     let narrow = c.requires.narrow in
     let row_long = c.fits-row in
     (l.0, l.1, l.2 ∙ whole_row c.args.w q c.args.row.now long (subst (λ (k : ℕ). k ≤ length c.args.row.now) c.if-x-w.true c.requires.begun.long) all)
+
+pub returns-then-misses_from-clause-first : goal.returns-then-misses_from-clause-first
+returns-then-misses_from-clause-first t c = λ e q long way agree missing.
+    let i = c.loop-t.invariant in
+    let il = i.long in
+    let inside = c.requires.inside in
+    let narrow = c.requires.narrow in
+    let xw : c.args.x < c.args.w = omega (arith, inside, c.if-x-w.false) in
+    elim (cases_lt (slice_index q c.args.x) c.loop-t.t) [
+      | inl less ↦ absurd (missing (i.none q long way agree less))
+      | inr le ↦ elim (cases_lt c.loop-t.t (slice_index q c.args.x)) [
+        | inl more ↦ ahead c.args.w c.args.x c.loop-t.t c.misses_from.new.row c.loop-t.row c.args.row.now q xw (omega (arith, il, xw, narrow)) c.misses_from.ensures.same i.same agree more
+        | inr ge ↦
+            let here : slice_index q c.args.x ≡ c.loop-t.t = omega arith in
+            c.misses_from.ensures.first c.if-misses_from.true q long way
+            (agree_on c.args.x c.loop-t.t q c.loop-t.row c.args.row.now (omega (arith, il, xw, narrow)) i.same agree here) missing
+      ]
+    ]
 
 pub loop-t-preserved : goal.loop-t-preserved
 loop-t-preserved t c = elim c.if-may_come.branch [

@@ -1,0 +1,83 @@
+//! The rows that columns allow, listed in ascending order.
+ghost use Rattle.std.specs.Prelude.{◌≡◌, ◌<◌, ◌≤◌, ◌+◌, ◌*◌, ◌++◌, ℕ, List, true, false, length, IfOk, OnOk};
+ghost use Rattle.wt_strip.specs.Listed.{rows_in, row_at, IsListOf, IsSorted};
+ghost use Rattle.wt_strip.specs.Walks.{IsWay, AreAlike};
+ghost use Rattle.wt_strip.specs.Gathered.{AreGathered, HasAllGathered};
+
+use crate::limits::MAX_COLUMNS;
+use crate::walk::{Columns, may_come, pruned};
+use std::alloc::{AllocError, Global};
+use wt_grid::MAX_TILES;
+use wt_tile::Tile;
+
+/// Appends a row.
+pub fn push_row(w: usize, cells: &mut Vec<u16>, row: &[u16]) -> Result<(), AllocError>
+    requires wide { 1 ≤ w }
+    requires long { length row.now ≡ w }
+    requires whole { length cells.old.items ≡ rows_in w cells.old.items * w }
+    ensures { OnOk result (cells.new.items ≡ cells.old.items ++ row.now) }
+{
+    cells.extend_from_slice(row)?;
+    Ok(())
+}
+
+/// Appends the rows that begin with the first x cells, in ascending order; false once there are more than `room` rows.
+fn gather_from(
+    tiles: &[Tile],
+    w: usize,
+    allowed: &Columns,
+    room: usize,
+    cells: &mut Vec<u16>,
+    row: &mut [u16; MAX_COLUMNS],
+    x: usize,
+) -> Result<bool, AllocError>
+    requires few { length tiles.now ≤ MAX_TILES }
+    requires wide { 1 ≤ w }
+    requires narrow { w ≤ MAX_COLUMNS }
+    requires inside { x ≤ w }
+    requires whole { length cells.old.items ≡ rows_in w cells.old.items * w }
+    requires begun { IsWay tiles.now allowed.now x row.old }
+    ensures long { length row.new ≡ MAX_COLUMNS }
+    ensures same { OnOk result (AreAlike x row.new row.old) }
+    ensures gathered { OnOk result (AreGathered tiles.now allowed.now w x (length tiles.now) row.old cells.old.items cells.new.items) }
+    ensures all { IfOk result (λ done. done ≡ true → HasAllGathered tiles.now allowed.now w x (length tiles.now) row.old cells.old.items cells.new.items) }
+    ensures more { IfOk result (λ done. done ≡ false → room < rows_in w cells.new.items) }
+{
+    if x == w {
+        push_row(w, cells, &row[..w])?;
+        return Ok(cells.len() / w <= room);
+    }
+    for t in 0..tiles.len() {
+        if may_come(tiles, allowed, row, x, t) {
+            row[x] = t as u16;
+            if !gather_from(tiles, w, allowed, room, cells, row, x + 1)? {
+                return Ok(false);
+            }
+        }
+    }
+    Ok(true)
+}
+
+/// The rows that their columns allow, in ascending order, or some of them where they are more than `room`.
+pub fn gathered(
+    alloc: Global,
+    tiles: &[Tile],
+    w: usize,
+    allowed: &Columns,
+    room: usize,
+) -> Result<(Vec<u16>, bool), AllocError>
+    requires few { length tiles.now ≤ MAX_TILES }
+    requires wide { 1 ≤ w }
+    requires narrow { w ≤ MAX_COLUMNS }
+    ensures all { IfOk result (λ found. found.1 ≡ true → IsListOf (λ q. (length q ≡ w) × IsWay tiles.now allowed.now w q) w found.0.items) }
+    ensures sorted { IfOk result (λ found. IsSorted w found.0.items) }
+    ensures right { IfOk result (λ found. (r : ℕ) → r < rows_in w found.0.items
+        → (length (row_at w found.0.items r) ≡ w) × IsWay tiles.now allowed.now w (row_at w found.0.items r)) }
+    ensures more { IfOk result (λ found. found.1 ≡ false → room < rows_in w found.0.items) }
+{
+    let left = pruned(tiles, w, allowed);
+    let mut row = [0u16; MAX_COLUMNS];
+    let mut cells = Vec::new(alloc);
+    let done = gather_from(tiles, w, &left, room, &mut cells, &mut row, 0)?;
+    Ok((cells, done))
+}
