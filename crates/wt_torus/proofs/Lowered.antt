@@ -16,11 +16,11 @@ use Rattle.wt_plane.specs.HalfPlanes.{Half, numbers_of, reduced_half}
 use Rattle.wt_torus.proofs.Scale.{IsLowered, scaled}
 
 -- what is divided out: the divisor, or 1 where all numbers are 0
-factor : ℕ → ℤ
+pub factor : ℕ → ℤ
 factor zero = pos 1
 factor (suc g) = pos (suc g)
 
-factor_above : (g : ℕ) → pos 0 <ℤ factor g
+pub factor_above : (g : ℕ) → pos 0 <ℤ factor g
 unfolding factor
 factor_above zero = omega (arith, ints)
 factor_above (suc g) = omega (arith, ints)
@@ -37,7 +37,7 @@ natural (suc g) n d = pos-*ℤ-pos (n / suc g) (suc g) ∙ ap pos (div-mul_cance
 negated : (x y : ℤ) → neg_ℤ x *ℤ y ≡ neg_ℤ (x *ℤ y)
 negated x y = solve integers (x ∷ y ∷ []) (⊖_ (x_ 0) ⊗ x_ 1) (⊖_ (x_ 0 ⊗ x_ 1)) refl
 
-quotient_back : (g : ℕ) (x : ℤ) → g ∣ unsigned_abs x → int_div x (pos g) *ℤ factor g ≡ x
+pub quotient_back : (g : ℕ) (x : ℤ) → g ∣ unsigned_abs x → int_div x (pos g) *ℤ factor g ≡ x
 quotient_back g (pos n) d = natural g n d
 quotient_back g (negsuc n) d = negated (pos (suc n / g)) (factor g) ∙ ap neg_ℤ (natural g (suc n) d)
 
@@ -50,7 +50,7 @@ times_whole x k = same_whole _ _
 pub divided_back : (x y : Whole) (k : ℤ) → y.a *ℤ k ≡ x.a → y.b *ℤ k ≡ x.b → x ≡ times y (whole k)
 divided_back x y k e f = same_whole x (record { a = y.a *ℤ k; b = y.b *ℤ k }) (sym e) (sym f) ∙ sym (times_whole y k)
 
-quotient_above : (q k : ℤ) (d : ℤ) → pos 0 <ℤ k → q *ℤ k ≡ d → pos 0 <ℤ d → pos 0 <ℤ q
+pub quotient_above : (q k : ℤ) (d : ℤ) → pos 0 <ℤ k → q *ℤ k ≡ d → pos 0 <ℤ d → pos 0 <ℤ q
 quotient_above q k d h e over =
     let p = positive_whole d over in
     let same : whole d ≡ times (whole q) (whole k) = ap whole (sym e) ∙ whole_times q k in

@@ -256,6 +256,19 @@ module _ (length move : Whole) (some : is_positive move ≡ true) (less : is_pos
     ]
   ]
 
+  -- its move is above 0, and below its size
+  pub window_moves : (plus move move ≡ length → ⊥) → (is_positive (window length move).move ≡ true) × (is_positive (minus (window length move).size (window length move).move) ≡ true)
+  unfolding plus opposite
+  window_moves half = elim (flag (is_positive (minus length (plus move move)))) [
+    | inl e ↦ rw (low_window e) (some, as_true (minus length (plus move move)) (minus (minus length move) move) true (omega (arith, ints)) (omega (arith, ints)) e)
+    | inr e ↦ elim (total (minus length (plus move move)) e) [
+      | inl z ↦ absurd (half (same_whole (plus move move) length (let a = ap (λ (r : Whole). r.a) z in omega (arith, ints)) (let a = ap (λ (r : Whole). r.b) z in omega (arith, ints))))
+      | inr p ↦
+          let h = as_true (minus zero_whole (minus length (plus move move))) (minus (plus move move) length) true (omega (arith, ints)) (omega (arith, ints)) p in
+          rw (high_window h) (h, as_true (minus length move) (minus move (minus (plus move move) length)) true (omega (arith, ints)) (omega (arith, ints)) less)
+    ]
+  ]
+
 one_is_two : (n : ℕ) → n ≡ 1 → n ≡ 2 → ⊥
 one_is_two n e f = omega arith
 

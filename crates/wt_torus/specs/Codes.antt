@@ -1,7 +1,7 @@
 -- Codes: the letters of a point and of its turns along both axes.
-use Rattle.std.specs.Prelude.{◌≡◌, ℕ, ◌<◌, nat_le, ℤ, ◌*ℤ◌, unsigned_abs, Bool, ◌&&◌, not, Option, None, Some, if◌then◌else◌}
+use Rattle.std.specs.Prelude.{◌≡◌, ℕ, ◌<◌, nat_lt, nat_le, ℤ, ◌*ℤ◌, unsigned_abs, Bool, ◌&&◌, not, Option, None, Some, if◌then◌else◌}
 use Rattle.wt_golden.specs.Whole.{Whole, whole, times, opposite, is_positive}
-use Rattle.wt_golden.specs.Fractions.{Fraction, top, over, lowest}
+use Rattle.wt_golden.specs.Fractions.{Fraction, top, over, lowest, limit}
 use Rattle.wt_plane.specs.HalfPlanes.{Spot, x_of, y_of, spot, spot_limit, reduced_spot}
 use Rattle.wt_grid.specs.Grid.{Grid, IsGrid, cell, grid_of}
 use Rattle.wt_grid.specs.First.{first_from}
@@ -33,7 +33,19 @@ pub record IsCode (p : Partition) (z : Spot) (g : Grid) : Type 0 where
   pub grid : IsGrid g
   pub letters : (i j : ℕ) → i < g.width → j < g.height → letter p (reached p.torus z i j) ≡ One (cell g i j)
 
--- each number of the point over its least common denominator is below the limit
+-- the three numbers of a golden number are below the limit
+abbrev pub is_within : Fraction → Bool
+is_within f = nat_lt (unsigned_abs f.a) limit && nat_lt (unsigned_abs f.b) limit && nat_lt (unsigned_abs f.d) limit
+
+-- the number, where it is within the limit
+abbrev pub within : Fraction → Option Fraction
+within f = if is_within f then Some f else None
+
+-- t after i turns, where that is within the limit
+abbrev pub coordinate_within : Fraction → Fraction → Fraction → ℕ → Option Fraction
+coordinate_within length move t i = within (coordinate length move t i)
+
+-- a number of the point over its least common denominator is below the limit
 abbrev pub fits : ℤ → Bool
 fits n = nat_le (unsigned_abs n) spot_limit
 
@@ -41,22 +53,24 @@ fits n = nat_le (unsigned_abs n) spot_limit
 abbrev pub is_small : Spot → Bool
 is_small z = fits z.x.a && fits z.x.b && fits z.y.a && fits z.y.b && fits z.d
 
+-- the letter of the point, where its numbers over its least common denominator are within the limit
+abbrev pub letter_within : Partition → Spot → Option Letter
+letter_within p z = if is_small (reduced_spot z) then Some (letter p z) else None
+
 -- from 0 on and below the side, along both axes
 abbrev pub is_in_square : Rotation → Spot → Bool
 is_in_square r z = not (is_positive (opposite z.x)) && is_below z.x z.d r.width && not (is_positive (opposite z.y)) && is_below z.y z.d r.height
 
--- what a letter at cell i of row j is a fault of
-abbrev pub letter_fault : ℕ → ℕ → Letter → Option CodeFault
-letter_fault i j (One a) = None
-letter_fault i j Unplaced = Some (NoLabel i j)
-letter_fault i j Doubled = Some (TwoLabels i j)
+-- what a letter at cell i of row j is a fault of: a number out of limit, or no single label
+abbrev pub letter_fault : ℕ → ℕ → Option Letter → Option CodeFault
+letter_fault i j None = Some TooLarge
+letter_fault i j (Some (One a)) = None
+letter_fault i j (Some Unplaced) = Some (NoLabel i j)
+letter_fault i j (Some Doubled) = Some (TwoLabels i j)
 
--- the fault of cell i of row j: a number out of limit, or no single letter
+-- the fault of cell i of row j
 abbrev pub cell_fault : Partition → Spot → ℕ → ℕ → Option CodeFault
-cell_fault p z j i =
-    if is_small (reduced_spot (reached p.torus z i j))
-    then letter_fault i j (letter p (reached p.torus z i j))
-    else Some TooLarge
+cell_fault p z j i = letter_fault i j (letter_within p (reached p.torus z i j))
 
 -- the first fault of row j
 abbrev pub row_fault : Partition → Spot → ℕ → ℕ → Option CodeFault

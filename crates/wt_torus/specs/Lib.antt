@@ -4,4 +4,5 @@ pub mod Rotation
 pub mod Reduced
 pub mod Letters
 pub mod Codes
+pub mod Cells
 pub mod Sound

@@ -1,11 +1,13 @@
 //! The letters of points.
 ghost use Rattle.std.specs.Prelude.{◌≡◌, true, None, Some};
+ghost use Rattle.wt_torus.specs.declared.coded.CodeFault.TheVariants as faults;
 ghost use Rattle.wt_torus.specs.Boxes as boxes;
 ghost use Rattle.wt_torus.specs.Letters.{letter};
 ghost use Rattle.wt_torus.specs.Letters as letter_words;
 
 use crate::partition::is_between;
 use crate::{Labelled, Letter, Partition, Torus};
+use std::alloc::AllocError;
 use wt_plane::{Point, contains};
 
 /// Why a point has no code.
@@ -21,6 +23,14 @@ pub enum CodeFault {
     Doubled { x: usize, y: usize },
     /// No memory was left.
     OutOfMemory,
+}
+
+impl From<AllocError> for CodeFault {
+    ghost from_gives = { λ _ e. e ≡ faults.OutOfMemory };
+
+    fn from(_: AllocError) -> Self {
+        CodeFault::OutOfMemory
+    }
 }
 
 fn is_in_box(torus: &Torus, z: &Point) -> bool

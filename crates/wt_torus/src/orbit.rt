@@ -8,6 +8,7 @@ ghost use Rattle.wt_torus.specs.Rotation as spec;
 use crate::sign::is_positive;
 use std::alloc::{AllocError, Global};
 use wt_golden::Wide;
+use wt_grid::MAX_SIDE;
 
 // The coordinate after one turn.
 fn advanced(length: Wide, step: Wide, at: Wide) -> Wide
@@ -27,7 +28,7 @@ fn advanced(length: Wide, step: Wide, at: Wide) -> Wide
 }
 
 /// The coordinates after 0, 1, .. turns, count of them.
-pub fn coordinates(
+pub(crate) fn coordinates(
     alloc: Global,
     length: Wide,
     step: Wide,
@@ -37,7 +38,7 @@ pub fn coordinates(
     requires length { IsBelow (number length) (2 ^ 92) }
     requires step { IsBelow (number step) (2 ^ 92) }
     requires start { IsBelow (number start) (2 ^ 92) }
-    requires few { count ≤ 4096 }
+    requires few { count ≤ MAX_SIDE }
     ensures { IfOk result (λ all. map number all.items ≡ listed count (spec.orbit (number length) (number step) (number start))) }
 {
     let mut all = Vec::with_capacity(alloc, count)?;

@@ -53,7 +53,7 @@ fn left_over(x: Wide, d: Wide, f: Wide, e: Wide) -> Wide
 }
 
 /// Whether x / d is below f.
-pub fn is_below(x: Wide, d: Wide, f: Golden) -> bool
+pub(crate) fn is_below(x: Wide, d: Wide, f: Golden) -> bool
     requires x { IsBelow (number x) (2 ^ 30) }
     requires d { IsBelow (number d) (2 ^ 30) }
     requires whole { number d ≡ whole (number d).a }
@@ -147,6 +147,12 @@ impl Torus {
         self.move2
     }
 }
+
+/// The greatest number of half-planes of a region, in a text or behind an induction.
+pub const MAX_PLANES: usize = 64;
+
+/// The greatest number of regions of a partition, in a text or behind an induction.
+pub const MAX_REGIONS: usize = 1024;
 
 /// A region and the label of its points.
 #[derive(Drop)]
