@@ -41,7 +41,7 @@ use Rattle.wt_induce.proofs.Law.{IsDefined, framed_length, framed_other, defined
 
 -- ---- by axis
 
-framed_move : (axis : Axis) (r : Rotation) → move_of axis (framed axis r) ≡ (frame_on axis r).move
+framed_move : (axis : Axis) (r : Rotation) → move_of axis (framed axis r) ≡ (frame_on axis r).step
 framed_move One r = refl
 framed_move Two r = refl
 
@@ -180,7 +180,7 @@ module _ (lowest_is : (f : Fraction) → pos 0 <ℤ f.d → (k : ℤ) × IsLower
       frame : IsFrame D (frame_on axis r) W
       frame = frame_is lowest_is D h (length_of axis r) (move_of axis r) L M hl hm ol om
 
-      shift : IsOver D (frame_on axis r).move W.move × (pos 0 <ℤ (frame_on axis r).move.d)
+      shift : IsOver D (frame_on axis r).step W.move × (pos 0 <ℤ (frame_on axis r).step.d)
       shift = move_is lowest_is D h (length_of axis r) (move_of axis r) L M hl hm ol om
 
       moves : (is_positive (top (move_of axis r)) ≡ true) × (is_below (top (move_of axis r)) (move_of axis r).d (length_of axis r) ≡ true)
@@ -221,7 +221,7 @@ module _ (lowest_is : (f : Fraction) → pos 0 <ℤ f.d → (k : ℤ) × IsLower
       size_is : length_of axis p'.torus ≡ (frame_on axis r).size
       size_is = ap (length_of axis) torus_is ∙ framed_length axis r
 
-      shift_is : move_of axis p'.torus ≡ (frame_on axis r).move
+      shift_is : move_of axis p'.torus ≡ (frame_on axis r).step
       shift_is = ap (move_of axis) torus_is ∙ framed_move axis r
 
       other_is : length_of (other axis) p'.torus ≡ length_of (other axis) r

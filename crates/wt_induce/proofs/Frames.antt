@@ -52,7 +52,7 @@ module _ (lowest_is : (f : Fraction) → pos 0 <ℤ f.d → (k : ℤ) × IsLower
     | inr e ↦ rw (test_is ∙ e, e) (record { size_over = hm; size = om; bound_over = rest.1; bound = rest.0; single = refl })
   ]
 
-  pub move_is : IsOver D (frame length move).move (window L M).move × (pos 0 <ℤ (frame length move).move.d)
+  pub move_is : IsOver D (frame length move).step (window L M).move × (pos 0 <ℤ (frame length move).step.d)
   move_is = elim (flag (is_positive (minus L (plus M M)))) [
     | inl e ↦ rw (test_is ∙ e, e) (om, hm)
     | inr e ↦ rw (test_is ∙ e, e) less_twice

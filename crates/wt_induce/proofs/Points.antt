@@ -26,8 +26,10 @@ use Rattle.wt_torus.specs.Rotation.{Window, IsInZone}
 use Rattle.wt_torus.specs.Letters.{only_label, those, is_held, label_of}
 use Rattle.wt_torus.proofs.Rotation.{flag, both}
 use Rattle.wt_induce.specs.Images.{number_of}
-use Rattle.wt_induce.specs.Zones.{Frame, frame_on, beyond, beneath, moved_along, zero_fraction, zone_low, zone_high}
-use Rattle.wt_induce.specs.Induced.{Draft, some_clash, zone, single, singles, double, doubles, drafts, is_kept, reduced_draft, kept, image_of, images, numbered, induced}
+use Rattle.wt_induce.specs.declared.zones.Frame.{Frame}
+use Rattle.wt_induce.specs.declared.drafts.Draft.{Draft}
+use Rattle.wt_induce.specs.Zones.{frame_on, beyond, beneath, moved_along, zero_fraction, zone_low, zone_high, zone}
+use Rattle.wt_induce.specs.Induced.{some_clash, single, singles, double, doubles, drafts, is_kept, reduced_draft, kept, image_of, images, numbered, induced}
 use Rattle.wt_induce.proofs.Numbers.{Each, all_numbered}
 use Rattle.wt_induce.proofs.Letters.{those_append, those_map, those_none, those_same, those_out, each_those, IsOnly, IsKnown, only_image, image_only, pairs, only_single, single_only, only_pair, pair_only}
 use Rattle.wt_induce.proofs.Letters.{singles as single_images}

@@ -3,23 +3,24 @@ use Rattle.std.specs.Prelude.{nat_le, nat_lt, unsigned_abs, Bool, true, false, �
 use Rattle.std.specs.List.{list_all}
 use Rattle.wt_grid.specs.declared.axis.Axis.{Axis}
 use Rattle.wt_golden.specs.Whole.{Whole}
-use Rattle.wt_golden.specs.Fractions.{Fraction, limit}
+use Rattle.wt_golden.specs.Fractions.{Fraction}
 use Rattle.wt_plane.specs.HalfPlanes.{Half, half_limit, reduced_half}
 use Rattle.wt_plane.specs.Regions.{reduced}
 use Rattle.wt_grid.specs.First.{or_else}
 use Rattle.wt_grid.specs.Order.{first_in}
 use Rattle.wt_torus.specs.declared.partition.Labelled.{Labelled}
 use Rattle.wt_torus.specs.declared.partition.Partition.{Partition}
-use Rattle.wt_torus.specs.Boxes.{move_of}
+use Rattle.wt_torus.specs.Boxes.{Rotation, move_of}
 use Rattle.wt_induce.specs.declared.fault.InduceFault.{InduceFault}
 use Rattle.wt_induce.specs.declared.fault.InduceFault.TheVariants.{Half as IsHalf, TooLarge, TooManyPlanes, TooManyRegions, TooManyLabels}
-use Rattle.wt_induce.specs.Zones.{Frame, frame_on, moved_along}
-use Rattle.wt_induce.specs.Induced.{Draft, singles, zone, double, is_kept, kept, images}
+use Rattle.wt_grid.specs.declared.limits.TheConstants.{MAX_TILES}
+use Rattle.wt_torus.specs.declared.partition.TheConstants.{MAX_PLANES, MAX_REGIONS}
+use Rattle.wt_torus.specs.Codes.{is_within}
+use Rattle.wt_induce.specs.declared.zones.Frame.{Frame}
+use Rattle.wt_induce.specs.declared.drafts.Draft.{Draft}
+use Rattle.wt_induce.specs.Zones.{frame_on, moved_along, zone}
+use Rattle.wt_induce.specs.Induced.{singles, double, is_kept, kept, images_of}
 use Rattle.wt_induce.specs.Law.{is_half}
-
--- the three numbers of a golden number are within the limit
-abbrev pub is_within : Fraction → Bool
-is_within f = nat_lt (unsigned_abs f.a) limit && nat_lt (unsigned_abs f.b) limit && nat_lt (unsigned_abs f.d) limit
 
 -- both parts are within the limit of half-planes
 abbrev pub are_within : Whole → Bool
@@ -29,18 +30,30 @@ are_within x = nat_le (unsigned_abs x.a) half_limit && nat_le (unsigned_abs x.b)
 abbrev pub is_small_half : Half → Bool
 is_small_half h = are_within h.p && are_within h.q && are_within h.r
 
--- the window and its zones are within the limits
+-- the numbers of the window are within the limits
+abbrev pub window_fits : Frame → Bool
+window_fits w = is_within w.size && is_within w.step && is_within w.bound
+
+-- the window and its zones are
 abbrev pub frame_fits : Axis → Frame → Bool
-frame_fits axis w = is_within w.size && is_within w.move && is_within w.bound && list_all is_small_half (zone axis w true) && list_all is_small_half (zone axis w false)
+frame_fits axis w = window_fits w && list_all is_small_half (zone axis w true) && list_all is_small_half (zone axis w false)
+
+-- twice the move is the length, or a number of the window or of a zone is out of limit
+abbrev pub zones_fault : Axis → Rotation → Option InduceFault
+zones_fault axis r = if is_half axis r then Some IsHalf else if frame_fits axis (frame_on axis r) then None else Some TooLarge
 
 -- a region that is kept has too many half-planes
 abbrev pub planes_fault : Draft → Option InduceFault
-planes_fault c = if is_kept c && nat_lt 64 (length (reduced [] c.planes)) then Some TooManyPlanes else None
+planes_fault c = if is_kept c && nat_lt MAX_PLANES (length (reduced [] c.planes)) then Some TooManyPlanes else None
+
+-- the half-planes of a region moved back by the move
+abbrev pub moved_back : Axis → Fraction → List Half → List Half
+moved_back axis move hs = map (λ h. reduced_half (moved_along axis move h)) hs
 
 -- a region moved back is out of limit, even where what is cut by it would be dropped
 abbrev pub pair_fault : Axis → Fraction → List Half → Labelled → Labelled → Option InduceFault
 pair_fault axis move zs p q =
-    if list_all is_small_half (map (λ h. reduced_half (moved_along axis move h)) q.region.planes)
+    if list_all is_small_half (moved_back axis move q.region.planes)
     then planes_fault (double axis move zs p q)
     else Some TooLarge
 
@@ -56,12 +69,9 @@ region_fault axis p =
     (first_in (pairs_fault axis (move_of axis p.torus) (zone axis w (not w.single_below)) p.regions) p.regions)
 
 -- too many regions are left, or there are too many labels
-abbrev pub count_fault : Axis → Partition → Option InduceFault
-count_fault axis p = if nat_lt 1024 (length (kept axis p)) then Some TooManyRegions else if nat_lt 256 (length (images axis p)) then Some TooManyLabels else None
+abbrev pub count_fault : List Draft → Option InduceFault
+count_fault cs = if nat_lt MAX_REGIONS (length cs) then Some TooManyRegions else if nat_lt MAX_TILES (length (images_of cs)) then Some TooManyLabels else None
 
 -- why a partition has no induced one along the axis within the limits
 unfoldable pub induce_fault : Axis → Partition → Option InduceFault
-induce_fault axis p =
-    if is_half axis p.torus then Some IsHalf
-    else if frame_fits axis (frame_on axis p.torus) then or_else (region_fault axis p) (count_fault axis p)
-    else Some TooLarge
+induce_fault axis p = or_else (zones_fault axis p.torus) (or_else (region_fault axis p) (count_fault (kept axis p)))

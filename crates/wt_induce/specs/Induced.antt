@@ -13,17 +13,13 @@ use Rattle.wt_torus.specs.Boxes.{move_of}
 use Rattle.wt_torus.specs.Letters.{those}
 use Rattle.wt_morphism.specs.declared.image.Morphism.{Morphism}
 use Rattle.wt_induce.specs.Images.{put_all, number_of}
-use Rattle.wt_induce.specs.Zones.{Frame, frame_on, framed, beyond, beneath, moved_along, zone_low, zone_high}
+use Rattle.wt_induce.specs.declared.drafts.Draft.{Draft}
+use Rattle.wt_induce.specs.Zones.{frame_on, framed, moved_along, zone}
 
 -- three of the half-planes, repeats allowed, have no common point
 abbrev pub some_clash : List Half → Bool
 some_clash [] = false
 some_clash (g ∷ gs) = clash_with_two g (g ∷ gs) || some_clash gs
-
--- A region in the making: what its label stands for, and its half-planes.
-pub record Draft : Type 0 where
-  pub image : Image
-  pub planes : List Half
 
 -- what the label of a draft stands for
 abbrev pub image_of : Draft → Image
@@ -44,10 +40,6 @@ is_kept c = not (some_clash c.planes)
 -- the region with its new label
 abbrev pub numbered : List Image → Draft → Labelled
 numbered is c = record { label = number_of is c.image; region = record { planes = c.planes } }
-
--- the two half-planes of the zone below the bound, or of the one above it
-abbrev pub zone : Axis → Frame → Bool → List Half
-zone axis w below = reduced_half (beyond axis (zone_low w below)) ∷ reduced_half (beneath axis (zone_high w below)) ∷ []
 
 -- after two: each region cut by the zone and by each region moved back
 abbrev pub double : Axis → Fraction → List Half → Labelled → Labelled → Draft
@@ -71,9 +63,13 @@ reduced_draft c = record { image = c.image; planes = reduced [] c.planes }
 abbrev pub kept : Axis → Partition → List Draft
 kept axis p = those reduced_draft is_kept (drafts axis p)
 
--- the new labels: the images that are left, each once, in order
+-- what the labels of drafts stand for, each once, in order
+abbrev pub images_of : List Draft → List Image
+images_of cs = put_all [] (map image_of cs)
+
+-- the new labels: the images that are left
 unfoldable pub images : Axis → Partition → List Image
-images axis p = put_all [] (map image_of (kept axis p))
+images axis p = images_of (kept axis p)
 
 -- the partition that the first returns to the window make
 unfoldable pub induced : Axis → Partition → Partition

@@ -1,32 +1,32 @@
 -- The window of an axis, its two zones, and half-planes moved along the axis.
-use Rattle.std.specs.Prelude.{pos, Bool, true, false, if◌then◌else◌}
+use Rattle.std.specs.Prelude.{pos, List, [], ◌∷◌, Bool, true, false, if◌then◌else◌}
 use Rattle.wt_grid.specs.declared.axis.Axis.TheVariants.{One, Two}
 use Rattle.wt_grid.specs.declared.axis.Axis.{Axis}
 use Rattle.wt_golden.specs.Whole.{whole, opposite}
 use Rattle.wt_golden.specs.Fractions.{Fraction, top, lowest, sum, difference}
-use Rattle.wt_plane.specs.HalfPlanes.{Half, moved_half}
+use Rattle.wt_plane.specs.HalfPlanes.{Half, reduced_half, moved_half}
+use Rattle.wt_induce.specs.declared.zones.Frame.{Frame}
 use Rattle.wt_torus.specs.Boxes.{Rotation, length_of, move_of, is_below}
-
--- The window on an axis: the coordinates below its size, the move of first returns on it, the bound between those that
--- return after one turn and those that return after two.
-pub record Frame : Type 0 where
-  pub size : Fraction
-  pub move : Fraction
-  pub bound : Fraction
-  pub single_below : Bool
 
 -- two times the number
 abbrev pub twice : Fraction → Fraction
 twice f = sum f f
 
--- for a move of less than half of the length, and for one of more: what the length is more than the move is the window's
--- size, or the bound
-abbrev pub frame : Fraction → Fraction → Frame
-frame length move =
+-- the window for a move of less than half of the length: what the length is more than the move is its size
+abbrev pub low_frame : Fraction → Fraction → Frame
+low_frame length move =
     let rest = lowest (difference length move) in
-    if is_below (top (twice move)) (twice move).d length
-    then record { size = rest; move = move; bound = lowest (difference rest move); single_below = true }
-    else record { size = move; move = lowest (difference move rest); bound = rest; single_below = false }
+    record { size = rest; step = move; bound = lowest (difference rest move); single_below = true }
+
+-- the window for a move of more: what the length is more than the move is its bound
+abbrev pub high_frame : Fraction → Fraction → Frame
+high_frame length move =
+    let rest = lowest (difference length move) in
+    record { size = move; step = lowest (difference move rest); bound = rest; single_below = false }
+
+-- the window of a length and a move
+abbrev pub frame : Fraction → Fraction → Frame
+frame length move = if is_below (top (twice move)) (twice move).d length then low_frame length move else high_frame length move
 
 -- the window of a rotation along an axis
 abbrev pub frame_on : Axis → Rotation → Frame
@@ -34,8 +34,8 @@ frame_on axis r = frame (length_of axis r) (move_of axis r)
 
 -- the rotation of the window
 abbrev pub framed : Axis → Rotation → Rotation
-framed One r = record { width = (frame_on One r).size; height = r.height; move1 = (frame_on One r).move; move2 = r.move2 }
-framed Two r = record { width = r.width; height = (frame_on Two r).size; move1 = r.move1; move2 = (frame_on Two r).move }
+framed One r = record { width = (frame_on One r).size; height = r.height; move1 = (frame_on One r).step; move2 = r.move2 }
+framed Two r = record { width = r.width; height = (frame_on Two r).size; move1 = r.move1; move2 = (frame_on Two r).step }
 
 -- t - f > 0 along the axis, before common divisors are taken out
 abbrev pub beyond : Axis → Fraction → Half
@@ -64,3 +64,11 @@ zone_low w false = w.bound
 abbrev pub zone_high : Frame → Bool → Fraction
 zone_high w true = w.bound
 zone_high w false = w.size
+
+-- the two half-planes of the coordinates from low to high
+abbrev pub between : Axis → Fraction → Fraction → List Half
+between axis low high = reduced_half (beyond axis low) ∷ reduced_half (beneath axis high) ∷ []
+
+-- the two half-planes of the zone below the bound, or of the one above it
+abbrev pub zone : Axis → Frame → Bool → List Half
+zone axis w below = between axis (zone_low w below) (zone_high w below)

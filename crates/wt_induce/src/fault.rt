@@ -1,4 +1,8 @@
 //! Why a partition has no induced one within the limits.
+ghost use Rattle.std.specs.Prelude.{◌≡◌};
+ghost use Rattle.wt_induce.specs.declared.fault.InduceFault.TheVariants as spec;
+
+use std::alloc::AllocError;
 
 /// Why `induce` gives no partition.
 #[derive(Clone, Copy, Debug, PartialEq, Eq)]
@@ -15,4 +19,12 @@ pub enum InduceFault {
     TooManyLabels,
     /// No memory was left.
     OutOfMemory,
+}
+
+impl From<AllocError> for InduceFault {
+    ghost from_gives = { λ _ e. e ≡ spec.OutOfMemory };
+
+    fn from(_: AllocError) -> Self {
+        InduceFault::OutOfMemory
+    }
 }

@@ -1,9 +1,16 @@
-//! Partitions of a box, induced on a window: what the first returns of a rotation to the window make of its codes. There
-//! is no code yet but the theorems.
+//! Partitions of a box, induced on a window: what the first returns of a rotation to the window make of a partition and of
+//! its codes (Labbé, "Rauzy induction of polygon partitions and toral Z²-rotations").
 #![tactic(auto)]
 
+mod backs;
+mod drafts;
 mod fault;
+mod images;
+mod inducing;
 mod laws;
+mod meeting;
+mod zones;
 
 pub use fault::InduceFault;
+pub use inducing::induce;
 pub use laws::{codes_are_images, codes_have_blocks};
