@@ -1,0 +1,5 @@
+pub mod Takes
+pub mod Pieces
+pub mod Raws
+pub mod Axes
+pub mod Follow

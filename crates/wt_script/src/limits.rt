@@ -1,0 +1,19 @@
+// The limits of a script's words that no other crate has.
+
+/// The greatest length of a name, in bytes.
+pub const MAX_NAME: usize = 32;
+
+/// The greatest number of axes of a search.
+pub const MAX_AXES: usize = 8;
+
+/// The greatest number of levels of a search.
+pub const MAX_LEVELS: u32 = 32;
+
+/// The greatest width and the greatest height of a pattern that a script makes, in tiles.
+pub const MAX_MADE: u32 = 1024;
+
+/// The greatest power of a loop of which seeds are asked.
+pub const MAX_POWER: u32 = 64;
+
+/// The greatest number of turns of a census.
+pub const MAX_TURNS: u32 = 4096;
