@@ -1,0 +1,16 @@
+pub mod Maps
+pub mod Listed
+pub mod Copies
+pub mod Floats
+pub mod Jsons
+pub mod Ascii
+pub mod Outcomes
+pub mod Running
+pub mod Strangers
+pub mod Expand
+pub mod Image
+pub mod Desub
+pub mod Binding
+pub mod Lifted
+pub mod Behind
+pub mod Counted

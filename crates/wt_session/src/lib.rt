@@ -1,0 +1,27 @@
+//! Scripts: a session binds names to tile sets, patterns and chains, and answers the commands of a script one after the other.
+#![tactic(auto)]
+
+mod colours;
+mod json;
+mod json_chains;
+mod json_patterns;
+mod json_sets;
+mod laws;
+mod levels;
+mod limits;
+mod lookup;
+mod names;
+mod nodes;
+mod reply;
+mod rows;
+mod script;
+mod session;
+mod spent;
+mod value;
+mod words;
+
+pub use laws::bound_names_are_found;
+pub use reply::CommandFault;
+pub use script::run_all;
+pub use session::Session;
+pub use wt_script::{Command, Style, Word, parse_script};

@@ -1,0 +1,23 @@
+// The words of a script, a module each.
+pub mod bound;
+pub mod census;
+pub mod cert;
+pub mod check;
+pub mod derive;
+pub mod desub;
+pub mod dominoes;
+pub mod draw;
+pub mod expand;
+pub mod fuse;
+pub mod image;
+pub mod json;
+pub mod markers;
+pub mod pattern;
+pub mod period;
+pub mod primitive;
+pub mod same;
+pub mod search;
+pub mod seeds;
+pub mod surround;
+pub mod tiles;
+pub mod valid;
