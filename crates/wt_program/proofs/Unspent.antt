@@ -1,4 +1,4 @@
--- No reply tells that a budget was spent.
+-- No reply of a command without a budget tells that a budget was spent.
 use Rattle.std.proofs.Common.{◌≡◌, ◌≢◌, ◌^◌, ℕ, List, length, slice_get, sym, subst}
 use Rattle.std.specs.Prelude.{ℤ, Option, None, Some, Result, Ok, Err, codes, nat_lt, Bool, true, false, if◌then◌else◌}
 use Rattle.wt_line.specs.declared.faults.What.{What}
@@ -24,8 +24,8 @@ use Rattle.wt_scale.specs.declared.size.SizeFault.{SizeFault}
 use Rattle.wt_scale.specs.declared.size.SizeFault.TheVariants as why
 use Rattle.wt_program.specs.declared.reply.Reply.{Reply}
 use Rattle.wt_program.specs.declared.reply.Reply.TheVariants.{Answered, Limit}
-use Rattle.wt_program.specs.Numbers.{signed_value}
-use Rattle.wt_program.specs.Commands.{Command, check, desub, bound, expand}
+use Rattle.wt_line.specs.Signed.{signed_value}
+use Rattle.wt_program.specs.Commands.{Command, check, run, desub, bound, expand, periodic, has_budget}
 use Rattle.wt_program.specs.Replies.{said}
 use Rattle.wt_program.specs.Faults.{fault_reply}
 use Rattle.wt_program.specs.Checks.{chain_of, judged_by, accepted_read, reply_or, report_reply}
@@ -97,8 +97,10 @@ unspent_both : (step : List ℕ) (r : Result (RawChain × Grid) (TextFault What)
 unspent_both step (Ok x) reply is = unspent_chain step x.1 x.0 (chain_fault x.0) reply is
 unspent_both step (Err fault) reply is = said_as reply _ is (unspent_fault fault)
 
-pub unspent : (c : Command) (bytes : List ℕ) (reply : Reply) → IsReply c bytes reply → (said reply).status ≢ 6
-unspent check bytes reply is = said_as reply _ is (unspent_read report_reply (λ c e. cc) (chain_of bytes))
-unspent (desub step) bytes reply is = unspent_both step (chain_and_pattern bytes) reply is
-unspent (bound x y) bytes reply is = said_as reply _ is (unspent_read (bounded (signed_value x) (signed_value y)) (λ c. unspent_bound (signed_value x) (signed_value y) c c.end) (chain_of bytes))
-unspent (expand w h) bytes reply is = said_as reply _ is (unspent_read (expanded (value_from 0 w) (value_from 0 h)) (λ c. unspent_pick (value_from 0 w) (value_from 0 h) c c.end) (chain_of bytes))
+pub unspent : (c : Command) (bytes : List ℕ) (reply : Reply) → has_budget c ≡ false → IsReply c bytes reply → (said reply).status ≢ 6
+unspent check bytes reply none is = said_as reply _ is (unspent_read report_reply (λ c e. cc) (chain_of bytes))
+unspent run bytes reply none is = absurd cc
+unspent (desub step) bytes reply none is = unspent_both step (chain_and_pattern bytes) reply is
+unspent (bound x y) bytes reply none is = said_as reply _ is (unspent_read (bounded (signed_value x) (signed_value y)) (λ c. unspent_bound (signed_value x) (signed_value y) c c.end) (chain_of bytes))
+unspent (expand w h) bytes reply none is = said_as reply _ is (unspent_read (expanded (value_from 0 w) (value_from 0 h)) (λ c. unspent_pick (value_from 0 w) (value_from 0 h) c c.end) (chain_of bytes))
+unspent (periodic n b) bytes reply none is = absurd cc
