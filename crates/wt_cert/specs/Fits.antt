@@ -1,6 +1,6 @@
 -- Which chains have a text: those within its limits, whose lists of tiles have their colours numbered by first coming.
 use Rattle.std.specs.Prelude.{◌≡◌, ℕ, ◌≤◌, true, List, length}
-use Rattle.wt_grid.specs.declared.image.Image.TheVariants.{One as Single, Two as Double}
+use Rattle.wt_grid.specs.declared.image.Image.TheVariants as image
 use Rattle.wt_grid.specs.declared.image.Image.{Image}
 use Rattle.wt_tile.specs.declared.tile.TileList.{TileList}
 use Rattle.wt_refute.specs.View.{refutation}
@@ -45,8 +45,8 @@ AreWritablePairs xs = (length xs ≤ 65536) × AllFit IsWritablePair xs
 
 -- the tiles of an image are within the limit
 abbrev pub IsWritableImage : Image → Type 0
-IsWritableImage (Single u) = IsSmall u
-IsWritableImage (Double u v) = IsSmall u × IsSmall v
+IsWritableImage (image.One u) = IsSmall u
+IsWritableImage (image.Two u v) = IsSmall u × IsSmall v
 
 -- at most 256 such images
 abbrev pub AreWritableImages : List Image → Type 0

@@ -1,6 +1,6 @@
 -- The lines of a certificate, each by its form and its limits, in the grammar's order. A row of names is in wt_pattern, a tree in Trees.
 use Rattle.std.specs.Prelude.{ℕ, Bool, true, false, List, [], ◌∷◌, Option, None, Some, Result, codes}
-use Rattle.wt_grid.specs.declared.image.Image.TheVariants.{One as Single, Two as Double}
+use Rattle.wt_grid.specs.declared.image.Image.TheVariants as image
 use Rattle.wt_grid.specs.declared.image.Image.{Image}
 use Rattle.wt_grid.specs.declared.axis.Side.{Side}
 use Rattle.wt_grid.specs.declared.axis.Axis.{Axis}
@@ -100,11 +100,11 @@ lost_form nodes = whole (both small (tree_to_end true nodes))
 
 -- an image of two tiles
 abbrev pub image_of : ℕ × ℕ → Image
-image_of x = Double x.0 x.1
+image_of x = image.Two x.0 x.1
 
 -- what may stand behind the first tile: nothing, or a second tile
 abbrev pub image_behind : Result ℕ What → List (List ℕ) → Option (Result Image What × List (List ℕ))
-image_behind u [] = Some (mapped Single u, [])
+image_behind u [] = Some (mapped image.One u, [])
 image_behind u (t ∷ ts) = small (t ∷ ts) >>= λ v. Some (mapped image_of (pair u v.0), v.1)
 
 -- an image, as tokens

@@ -1,7 +1,7 @@
 -- How a chain is written: its lines, token by token, in the grammar's order.
 use Rattle.std.specs.Prelude.{ℕ, ◌+◌, List, [], ◌∷◌, ◌++◌, length, map, codes}
 use Rattle.std.specs.List.{flat_map}
-use Rattle.wt_grid.specs.declared.image.Image.TheVariants.{One as Single, Two as Double}
+use Rattle.wt_grid.specs.declared.image.Image.TheVariants as image
 use Rattle.wt_grid.specs.declared.image.Image.{Image}
 use Rattle.wt_grid.specs.declared.axis.Side.TheVariants.{After, Before}
 use Rattle.wt_grid.specs.declared.axis.Side.{Side}
@@ -88,8 +88,8 @@ lost_lines xs = line (count_tokens (codes "lost") (length xs)) ++ flat_map (line
 
 -- images c, and c images
 abbrev pub image_tokens : Image → List (List ℕ)
-image_tokens (Single u) = decimal u ∷ []
-image_tokens (Double u v) = decimal u ∷ decimal v ∷ []
+image_tokens (image.One u) = decimal u ∷ []
+image_tokens (image.Two u v) = decimal u ∷ decimal v ∷ []
 
 -- the list of a step's images
 abbrev pub images_lines : List Image → List Line

@@ -3,7 +3,7 @@ use Rattle.std.specs.Prelude.{ℕ, zero, suc, ◌+◌, List, [], ◌∷◌, leng
 use Rattle.wt_grid.specs.Axes.{same_axis}
 use Rattle.wt_grid.specs.Traces.{piece_tiles}
 use Rattle.wt_grid.specs.Images.{first_tile}
-use Rattle.wt_grid.specs.declared.image.Image.TheVariants.{One as Single, Two as Double}
+use Rattle.wt_grid.specs.declared.image.Image.TheVariants as image
 use Rattle.wt_grid.specs.declared.image.Image.{Image}
 use Rattle.wt_grid.specs.declared.axis.Axis.TheVariants.{One, Two}
 use Rattle.wt_grid.specs.declared.axis.Axis.{Axis}
@@ -13,8 +13,8 @@ use Rattle.wt_step.specs.declared.raw.RawLink.TheVariants.{Marker, Restrict}
 
 -- what a coarse tile stands for; a restrict step keeps one tile for it
 abbrev pub image_of : RawLink → ℕ → Image
-image_of (Marker s) t = slice_index_or s.images t (Single 0)
-image_of (Restrict s) t = Single (slice_index s.kept t)
+image_of (Marker s) t = slice_index_or s.images t (image.One 0)
+image_of (Restrict s) t = image.One (slice_index s.kept t)
 
 -- images of two tiles lie along this axis
 abbrev pub is_along : Axis → RawLink → Bool

@@ -1,6 +1,6 @@
 -- Tables that say for each tile whether its image is at least two long.
 use Rattle.std.specs.Prelude.{ℕ, zero, suc, ◌≡◌, ◌<◌, ◌≤◌, List, [], ◌∷◌, map, replicate, Bool, false, ◌||◌, nat_le, slice_index_or}
-use Rattle.wt_grid.specs.declared.image.Image.TheVariants.{One as Single, Two as Double}
+use Rattle.wt_grid.specs.declared.image.Image.TheVariants as image
 use Rattle.wt_grid.specs.declared.image.Image.{Image}
 use Rattle.wt_grid.specs.declared.axis.Axis.{Axis}
 use Rattle.std.specs.List.{range_with_len}
@@ -19,8 +19,8 @@ entry rows t = slice_index_or rows t false
 
 -- an image is at least two long where it is two tiles along the axis, or where that of its first tile is
 abbrev pub grows_by : Bool → Image → List Bool → Bool
-grows_by along (Single a) rows = entry rows a
-grows_by along (Double a b) rows = along || entry rows a
+grows_by along (image.One a) rows = entry rows a
+grows_by along (image.Two a b) rows = along || entry rows a
 
 -- the same for the image of coarse tile t of a step
 abbrev pub grows : Axis → RawLink → List Bool → ℕ → Bool

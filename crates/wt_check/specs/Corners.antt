@@ -1,7 +1,7 @@
 -- The tiles at the corners of rectangles, and of what turns of a loop make of tiles.
 use Rattle.std.specs.Prelude.{◌≡◌, ℕ, ◌-◌, ◌<◌, Bool, true, false, ◌&&◌, ◌||◌, if◌then◌else◌, List, [], ◌∷◌, length, slice_index}
 use Rattle.wt_morphism.specs.Strands.{tile_of}
-use Rattle.wt_grid.specs.declared.image.Image.TheVariants.{One as Single, Two as Double}
+use Rattle.wt_grid.specs.declared.image.Image.TheVariants as image
 use Rattle.wt_grid.specs.declared.image.Image.{Image}
 use Rattle.wt_grid.specs.declared.axis.Axis.TheVariants.{One, Two}
 use Rattle.wt_grid.specs.Grid.{Grid, cell}

@@ -1,7 +1,7 @@
 -- Masks that say for each tile which tiles stand in what it stands for.
 use Rattle.std.specs.Prelude.{◌≡◌, ℕ, ◌<◌, max, min, List, [], ◌∷◌, length}
 use Rattle.wt_grid.specs.Traces.{piece_tiles}
-use Rattle.wt_grid.specs.declared.image.Image.TheVariants.{One as Single, Two as Double}
+use Rattle.wt_grid.specs.declared.image.Image.TheVariants as image
 use Rattle.wt_grid.specs.declared.image.Image.{Image}
 use Rattle.wt_grid.specs.Widths.{total}
 use Rattle.wt_tile.specs.declared.tile.TileList.{TileList}
@@ -13,8 +13,8 @@ use Rattle.wt_mask.specs.Masks.{mask_at}
 
 -- bit u of the mask of an image
 abbrev pub image_bit : List (List ℕ) → ℕ → Image → ℕ
-image_bit rows u (Single a) = mask_bit (mask_at rows a) u
-image_bit rows u (Double a b) = max (mask_bit (mask_at rows a) u) (mask_bit (mask_at rows b) u)
+image_bit rows u (image.One a) = mask_bit (mask_at rows a) u
+image_bit rows u (image.Two a b) = max (mask_bit (mask_at rows a) u) (mask_bit (mask_at rows b) u)
 
 -- bit u of the mask of each of n tiles is set where the tile weighs something by the weights of u
 abbrev pub AreMasks : ℕ → List (List ℕ) → (ℕ → ℕ → ℕ) → Type 0

@@ -1,6 +1,6 @@
 -- What a tile some levels up stands for in one row of the first level.
 use Rattle.std.specs.Prelude.{◌≡◌, ◌≤◌, ℕ, zero, suc, Bool, List, [], ◌∷◌, length, take}
-use Rattle.wt_grid.specs.declared.image.Image.TheVariants.{One as Single}
+use Rattle.wt_grid.specs.declared.image.Image.TheVariants as image
 use Rattle.wt_grid.specs.declared.image.Image.{Image}
 use Rattle.wt_grid.specs.declared.axis.Axis.TheVariants.{One, Two}
 use Rattle.wt_grid.specs.declared.axis.Axis.{Axis}
@@ -14,7 +14,7 @@ use Rattle.wt_expand.specs.Blocks.{piece_under, tile_of}
 -- what is laid of a piece in the lower or the upper row: along axis 1 all of it, along axis 2 one end
 abbrev pub laid_piece : Axis → Bool → Image → Image
 laid_piece One upper p = p
-laid_piece Two upper p = Single (tile_of upper p)
+laid_piece Two upper p = image.One (tile_of upper p)
 
 -- the tiles that are laid of a tile of the row above
 abbrev pub word : List ℕ → Level → Bool → ℕ → List ℕ

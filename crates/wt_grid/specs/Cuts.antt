@@ -1,6 +1,6 @@
 -- Border lines that no block holds.
 use Rattle.std.specs.Prelude.{ℕ, Bool, List, [], ◌∷◌, ◌++◌, map, if◌then◌else◌}
-use Rattle.wt_grid.specs.declared.image.Image.TheVariants.{One as Single, Two as Double}
+use Rattle.wt_grid.specs.declared.image.Image.TheVariants as image
 use Rattle.wt_grid.specs.declared.image.Image.{Image}
 use Rattle.wt_grid.specs.declared.axis.Side.TheVariants.{After, Before}
 use Rattle.wt_grid.specs.declared.axis.Side.{Side}
@@ -31,8 +31,8 @@ cut Before marker ls = backwards (cut_lines marker (backwards ls))
 
 -- the image with its two tiles exchanged
 abbrev pub flip : Image → Image
-flip (Single a) = Single a
-flip (Double a b) = Double b a
+flip (image.One a) = image.One a
+flip (image.Two a b) = image.Two b a
 
 -- what a step allows, read towards the markers
 abbrev pub step_table : Side → (ℕ → ℕ → Bool) → (ℕ → ℕ → Bool) → (ℕ → Bool) → List Image → Table

@@ -1,28 +1,28 @@
 -- Images of coarse lines and of coarse rectangles, computed from the pieces of their tiles.
 use Rattle.std.specs.Prelude.{◌≡◌, ℕ, ◌<◌, ◌++◌, Bool, true, false, if◌then◌else◌, List, [], ◌∷◌, map, slice_index_or}
-use Rattle.wt_grid.specs.declared.image.Image.TheVariants.{One as Single, Two as Double}
+use Rattle.wt_grid.specs.declared.image.Image.TheVariants as image
 use Rattle.wt_grid.specs.declared.image.Image.{Image}
 use Rattle.wt_grid.specs.declared.axis.Axis.{Axis}
 use Rattle.wt_grid.specs.Grid.{Grid, across, lines, of_lines}
 
 -- the piece that a coarse tile stands for
 abbrev pub piece_at : List Image → ℕ → Image
-piece_at images i = slice_index_or images i (Single 0)
+piece_at images i = slice_index_or images i (image.One 0)
 
 -- the first tile of an image, the left or the lower one
 abbrev pub first_tile : Image → ℕ
-first_tile (Single a) = a
-first_tile (Double a b) = a
+first_tile (image.One a) = a
+first_tile (image.Two a b) = a
 
 -- the last tile of an image: of one tile, that tile
 abbrev pub last_tile : Image → ℕ
-last_tile (Single a) = a
-last_tile (Double a b) = b
+last_tile (image.One a) = a
+last_tile (image.Two a b) = b
 
 -- the image has two tiles
 abbrev pub is_pair : Image → Bool
-is_pair (Single a) = false
-is_pair (Double a b) = true
+is_pair (image.One a) = false
+is_pair (image.Two a b) = true
 
 -- the first tiles of the images of a line
 abbrev pub firsts : List Image → List ℕ → List ℕ
@@ -72,5 +72,5 @@ image_grid axis images g = of_lines axis (across axis g) (image_lines images (li
 
 -- the piece's tiles are below n
 abbrev pub PieceBelow : ℕ → Image → Type 0
-PieceBelow n (Single a) = a < n
-PieceBelow n (Double a b) = (a < n) × (b < n)
+PieceBelow n (image.One a) = a < n
+PieceBelow n (image.Two a b) = (a < n) × (b < n)

@@ -1,6 +1,6 @@
 -- Runs of cells in coarse rectangles, followed down to the cells that they stand for.
 use Rattle.std.specs.Prelude.{◌≡◌, ℕ, ◌+◌, ◌<◌, ◌≤◌, Bool, List, [], ◌∷◌, length, map, slice_index}
-use Rattle.wt_grid.specs.declared.image.Image.TheVariants.{One as Single, Two as Double}
+use Rattle.wt_grid.specs.declared.image.Image.TheVariants as image
 use Rattle.wt_grid.specs.declared.image.Image.{Image}
 use Rattle.wt_grid.specs.declared.axis.Axis.{Axis}
 use Rattle.wt_grid.specs.Grid.{Grid, along, across, at, listed}
@@ -17,8 +17,8 @@ cells_at j ls = map (λ u. slice_index u j) ls
 
 -- the one or two tiles of an image, in their order
 abbrev pub piece_tiles : Image → List ℕ
-piece_tiles (Single a) = a ∷ []
-piece_tiles (Double a b) = a ∷ b ∷ []
+piece_tiles (image.One a) = a ∷ []
+piece_tiles (image.Two a b) = a ∷ b ∷ []
 
 -- a stage gives each tile its piece
 pub record IsStageOf (b : Bool) (images : List Image) (s : Stage) : Type 0 where

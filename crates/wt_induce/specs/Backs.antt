@@ -2,7 +2,7 @@
 use Rattle.std.specs.Prelude.{ℕ, List, [], ◌∷◌, ◌++◌, map, Option, None, Some, if◌then◌else◌}
 use Rattle.std.specs.List.{list_all, flat_map}
 use Rattle.wt_grid.specs.declared.axis.Axis.{Axis}
-use Rattle.wt_grid.specs.declared.image.Image.TheVariants.{Two as Double}
+use Rattle.wt_grid.specs.declared.image.Image.TheVariants as image
 use Rattle.wt_grid.specs.Order.{first_in}
 use Rattle.wt_golden.specs.Fractions.{Fraction}
 use Rattle.wt_plane.specs.HalfPlanes.{Half}
@@ -23,7 +23,7 @@ back_of axis move q = record { label = q.label; planes = moved_within axis move 
 
 -- what is cut by these half-planes in front and by a region moved back, for the labels a and b
 abbrev pub paired : List Half → ℕ → ℕ → List Half → Draft
-paired front a b hs = record { image = Double a b; planes = front ++ hs }
+paired front a b hs = record { image = image.Two a b; planes = front ++ hs }
 
 -- its fault
 abbrev pub paired_fault : List Half → ℕ → ℕ → Option (List Half) → Option InduceFault

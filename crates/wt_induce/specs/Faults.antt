@@ -12,7 +12,7 @@ use Rattle.wt_torus.specs.declared.partition.Labelled.{Labelled}
 use Rattle.wt_torus.specs.declared.partition.Partition.{Partition}
 use Rattle.wt_torus.specs.Boxes.{Rotation, move_of}
 use Rattle.wt_induce.specs.declared.fault.InduceFault.{InduceFault}
-use Rattle.wt_induce.specs.declared.fault.InduceFault.TheVariants.{Half as IsHalf, TooLarge, TooManyPlanes, TooManyRegions, TooManyLabels}
+use Rattle.wt_induce.specs.declared.fault.InduceFault.TheVariants as fault
 use Rattle.wt_grid.specs.declared.limits.TheConstants.{MAX_TILES}
 use Rattle.wt_torus.specs.declared.partition.TheConstants.{MAX_PLANES, MAX_REGIONS}
 use Rattle.wt_torus.specs.Codes.{is_within}
@@ -40,11 +40,11 @@ frame_fits axis w = window_fits w && list_all is_small_half (zone axis w true) &
 
 -- twice the move is the length, or a number of the window or of a zone is out of limit
 abbrev pub zones_fault : Axis → Rotation → Option InduceFault
-zones_fault axis r = if is_half axis r then Some IsHalf else if frame_fits axis (frame_on axis r) then None else Some TooLarge
+zones_fault axis r = if is_half axis r then Some fault.Half else if frame_fits axis (frame_on axis r) then None else Some fault.TooLarge
 
 -- a region that is kept has too many half-planes
 abbrev pub planes_fault : Draft → Option InduceFault
-planes_fault c = if is_kept c && nat_lt MAX_PLANES (length (reduced [] c.planes)) then Some TooManyPlanes else None
+planes_fault c = if is_kept c && nat_lt MAX_PLANES (length (reduced [] c.planes)) then Some fault.TooManyPlanes else None
 
 -- the half-planes of a region moved back by the move
 abbrev pub moved_back : Axis → Fraction → List Half → List Half
@@ -55,7 +55,7 @@ abbrev pub pair_fault : Axis → Fraction → List Half → Labelled → Labelle
 pair_fault axis move zs p q =
     if list_all is_small_half (moved_back axis move q.region.planes)
     then planes_fault (double axis move zs p q)
-    else Some TooLarge
+    else Some fault.TooLarge
 
 -- the first fault of the induced regions of p after two turns
 abbrev pub pairs_fault : Axis → Fraction → List Half → List Labelled → Labelled → Option InduceFault
@@ -70,7 +70,7 @@ region_fault axis p =
 
 -- too many regions are left, or there are too many labels
 abbrev pub count_fault : List Draft → Option InduceFault
-count_fault cs = if nat_lt MAX_REGIONS (length cs) then Some TooManyRegions else if nat_lt MAX_TILES (length (images_of cs)) then Some TooManyLabels else None
+count_fault cs = if nat_lt MAX_REGIONS (length cs) then Some fault.TooManyRegions else if nat_lt MAX_TILES (length (images_of cs)) then Some fault.TooManyLabels else None
 
 -- why a partition has no induced one along the axis within the limits
 unfoldable pub induce_fault : Axis → Partition → Option InduceFault

@@ -1,6 +1,6 @@
 -- The induced partition: what the first returns to a window make of the regions.
 use Rattle.std.specs.Prelude.{Bool, false, not, ◌||◌, List, [], ◌∷◌, ◌++◌, map}
-use Rattle.wt_grid.specs.declared.image.Image.TheVariants.{One as Single, Two as Double}
+use Rattle.wt_grid.specs.declared.image.Image.TheVariants as image
 use Rattle.wt_grid.specs.declared.image.Image.{Image}
 use Rattle.wt_grid.specs.declared.axis.Axis.{Axis}
 use Rattle.std.specs.List.{flat_map}
@@ -27,7 +27,7 @@ image_of c = c.image
 
 -- after one turn: each region cut by the zone
 abbrev pub single : List Half → Labelled → Draft
-single zs p = record { image = Single p.label; planes = p.region.planes ++ zs }
+single zs p = record { image = image.One p.label; planes = p.region.planes ++ zs }
 
 -- the drafts of all regions after one turn
 abbrev pub singles : List Half → List Labelled → List Draft
@@ -43,7 +43,7 @@ numbered is c = record { label = number_of is c.image; region = record { planes 
 
 -- after two: each region cut by the zone and by each region moved back
 abbrev pub double : Axis → Fraction → List Half → Labelled → Labelled → Draft
-double axis move zs p q = record { image = Double p.label q.label; planes = p.region.planes ++ (zs ++ map (λ h. reduced_half (moved_along axis move h)) q.region.planes) }
+double axis move zs p q = record { image = image.Two p.label q.label; planes = p.region.planes ++ (zs ++ map (λ h. reduced_half (moved_along axis move h)) q.region.planes) }
 
 -- the drafts of all pairs of regions after two turns, by the first and then by the second
 abbrev pub doubles : Axis → Fraction → List Half → List Labelled → List Draft

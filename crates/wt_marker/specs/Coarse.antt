@@ -1,6 +1,6 @@
 -- Coarse tiles: what each image shows on its four edges, numbered by first coming.
 use Rattle.std.specs.Prelude.{ℕ, suc, Bool, true, false, ◌&&◌, nat_eq, if◌then◌else◌, List, [], ◌∷◌, ◌++◌, length, map}
-use Rattle.wt_grid.specs.declared.image.Image.TheVariants.{One as Single, Two as Double}
+use Rattle.wt_grid.specs.declared.image.Image.TheVariants as image
 use Rattle.wt_grid.specs.declared.image.Image.{Image}
 use Rattle.wt_grid.specs.declared.axis.Axis.{Axis}
 use Rattle.std.specs.List.{range_with_len, list_any}
@@ -9,30 +9,30 @@ use Rattle.wt_tile.specs.declared.tile.Tile.{Tile}
 use Rattle.wt_tile.specs.declared.tile.TileList.{TileList}
 use Rattle.wt_tile.specs.declared.fusion.Fused.{Fused}
 use Rattle.wt_tile.specs.declared.fusion.Edge.{Edge}
-use Rattle.wt_tile.specs.declared.fusion.Edge.TheVariants.{One as single, Two as pair}
+use Rattle.wt_tile.specs.declared.fusion.Edge.TheVariants as edge
 use Rattle.wt_tile.specs.Fusion.{fused}
 use Rattle.wt_tile.specs.Matching.{tile_at, matches}
 
 -- a tile's own edges
 abbrev pub plain : Tile → Fused
-plain t = record { east = single t.east; north = single t.north; west = single t.west; south = single t.south }
+plain t = record { east = edge.One t.east; north = edge.One t.north; west = edge.One t.west; south = edge.One t.south }
 
 -- the edges of an image along an axis
 abbrev pub edges_of : List Tile → Axis → Image → Fused
-edges_of ts axis (Single a) = plain (tile_at ts a)
-edges_of ts axis (Double a b) = fused axis (tile_at ts a) (tile_at ts b)
+edges_of ts axis (image.One a) = plain (tile_at ts a)
+edges_of ts axis (image.Two a b) = fused axis (tile_at ts a) (tile_at ts b)
 
 -- the tiles of an image match along the axis
 abbrev pub is_joined : List Tile → Axis → Image → Bool
-is_joined ts axis (Single a) = true
-is_joined ts axis (Double a b) = matches ts axis a b
+is_joined ts axis (image.One a) = true
+is_joined ts axis (image.Two a b) = matches ts axis a b
 
 -- two edges show the same: one colour, or the same two in the same order
 abbrev pub same_edge : Edge → Edge → Bool
-same_edge (single a) (single b) = nat_eq a b
-same_edge (single a) (pair b c) = false
-same_edge (pair a b) (single c) = false
-same_edge (pair a b) (pair c d) = nat_eq a c && nat_eq b d
+same_edge (edge.One a) (edge.One b) = nat_eq a b
+same_edge (edge.One a) (edge.Two b c) = false
+same_edge (edge.Two a b) (edge.One c) = false
+same_edge (edge.Two a b) (edge.Two c d) = nat_eq a c && nat_eq b d
 
 -- the number of an edge: its place among those that came, or how many they are
 abbrev pub place : Edge → List Edge → ℕ

@@ -1,6 +1,6 @@
 -- Images of patterns, and why a pattern has none.
 use Rattle.std.specs.Prelude.{◌≡◌, ℕ, ◌+◌, Bool, true, false, ◌||◌, nat_lt, List, [], ◌∷◌, map, slice_index_or, Option, None, Some, if◌then◌else◌}
-use Rattle.wt_grid.specs.declared.image.Image.TheVariants.{One as Single, Two as Double}
+use Rattle.wt_grid.specs.declared.image.Image.TheVariants as tiles
 use Rattle.wt_grid.specs.declared.image.Image.{Image}
 use Rattle.wt_grid.specs.declared.axis.Axis.TheVariants.{One, Two}
 use Rattle.wt_grid.specs.declared.axis.Axis.{Axis}
@@ -18,8 +18,8 @@ use Rattle.wt_morphism.specs.declared.fault.CutFault.TheVariants as cut
 
 -- what a tile stands for, as one number or two
 abbrev pub piece : Image → Image
-piece (Single a) = Single a
-piece (Double a b) = Double a b
+piece (tiles.One a) = tiles.One a
+piece (tiles.Two a b) = tiles.Two a b
 
 -- what each tile stands for
 abbrev pub pieces : Morphism → List Image

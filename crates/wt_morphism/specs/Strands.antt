@@ -1,7 +1,7 @@
 -- The lines of an image, each with the line of the pattern that it comes from.
 use Rattle.std.specs.Prelude.{ℕ, zero, suc, ◌+◌, ◌/◌, ◌%◌, Bool, true, false, List, [], ◌∷◌, slice_index_or, if◌then◌else◌}
 use Rattle.wt_grid.specs.Images.{piece_at}
-use Rattle.wt_grid.specs.declared.image.Image.TheVariants.{One as Single, Two as Double}
+use Rattle.wt_grid.specs.declared.image.Image.TheVariants as image
 use Rattle.wt_grid.specs.declared.image.Image.{Image}
 use Rattle.wt_grid.specs.declared.axis.Axis.TheVariants.{One, Two}
 use Rattle.wt_grid.specs.declared.axis.Axis.{Axis}
@@ -25,8 +25,8 @@ all_strands m p = strands (line_is_two m p) 0 (along m.axis p)
 
 -- the first or the second tile of an image
 abbrev pub tile_of : Bool → Image → ℕ
-tile_of second (Single a) = a
-tile_of second (Double a b) = if second then b else a
+tile_of second (image.One a) = a
+tile_of second (image.Two a b) = if second then b else a
 
 -- cell j of a line of the image
 abbrev pub strand_cell : Morphism → Grid → Strand → ℕ → ℕ

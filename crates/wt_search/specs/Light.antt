@@ -14,7 +14,7 @@ use Rattle.wt_step.specs.declared.raw.RawStep.{RawStep}
 use Rattle.wt_step.specs.declared.raw.RawLink.{RawLink}
 use Rattle.wt_step.specs.declared.raw.RawLink.TheVariants.{Marker, Restrict}
 use Rattle.wt_chain.specs.declared.raw.RawChain.{RawChain}
-use Rattle.wt_chain.specs.declared.raw.Version.TheVariants.{Two as VersionTwo}
+use Rattle.wt_chain.specs.declared.raw.Version.TheVariants as versions
 use Rattle.wt_window.specs.Surrounded.{surroundable}
 use Rattle.wt_marker.specs.Gather.{any_from, pairs_of}
 
@@ -87,7 +87,7 @@ light_link (Restrict s) = Restrict s
 
 -- The light chain: in version two, with light steps; its end is as before.
 abbrev pub light : RawChain → RawChain
-light c = record { version = VersionTwo; steps = map light_link c.steps; end = c.end }
+light c = record { version = versions.Two; steps = map light_link c.steps; end = c.end }
 
 -- What is said of each entry of a light step: its radius is the least, from 1 on, at which its window is empty, and its tree is the standard one with the entries of lower radius known.
 pub record IsLight (ts : List Tile) (entries : List Refuted) (r : Refuted) : Type 0 where

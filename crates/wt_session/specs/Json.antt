@@ -1,7 +1,7 @@
 -- Values as JSON. Members stand in the order of their keys' bytes.
 use Rattle.std.specs.Prelude.{ℕ, Bool, true, false, zero, suc, ◌+◌, ◌*◌, List, [], ◌∷◌, ◌++◌, length, map, slice_range, codes, Result, Ok, Err}
 use Rattle.wt_grid.specs.Axes.{axis_number}
-use Rattle.wt_grid.specs.declared.image.Image.TheVariants.{One as Single, Two as Double}
+use Rattle.wt_grid.specs.declared.image.Image.TheVariants as image
 use Rattle.wt_grid.specs.declared.image.Image.{Image}
 use Rattle.wt_grid.specs.declared.axis.Side.TheVariants.{After, Before}
 use Rattle.wt_grid.specs.declared.axis.Side.{Side}
@@ -91,8 +91,8 @@ pattern_text p =
 
 -- an image of one or two tiles
 abbrev pub image_json : Image → Data
-image_json (Single u) = numbers (u ∷ [])
-image_json (Double u v) = numbers (u ∷ v ∷ [])
+image_json (image.One u) = numbers (u ∷ [])
+image_json (image.Two u v) = numbers (u ∷ v ∷ [])
 
 -- the side of a step
 abbrev pub side_json : Side → Data

@@ -1,6 +1,6 @@
 -- How a pattern is read: blocks of one or two lines, and the coarse tile of each.
 use Rattle.std.specs.Prelude.{ℕ, zero, suc, ◌+◌, ◌-◌, ◌*◌, ◌/◌, ◌%◌, ◌<◌, ◌≡◌, Bool, true, false, ◌&&◌, nat_lt, List, [], ◌∷◌, length, slice_get, slice_index, slice_index_or, slice_set, Some, if◌then◌else◌}
-use Rattle.wt_grid.specs.declared.image.Image.TheVariants.{One as Single, Two as Double}
+use Rattle.wt_grid.specs.declared.image.Image.TheVariants as image
 use Rattle.wt_grid.specs.declared.image.Image.{Image}
 use Rattle.wt_grid.specs.declared.axis.Axis.TheVariants.{One, Two}
 use Rattle.wt_grid.specs.declared.axis.Axis.{Axis}
@@ -38,18 +38,18 @@ blocks_in pairs false i (suc (suc n)) = record { line = i; double = pairs i } �
 pub record IsIndexed (images : List Image) (n k : ℕ) (singles pairs : List ℕ) : Type 0 where
   pub size1 : length singles ≡ n
   pub size2 : length pairs ≡ n * n
-  pub ones : (i a : ℕ) → i < k → slice_get images i ≡ Some (Single a) → slice_index singles a ≡ i
-  pub twos : (i a b : ℕ) → i < k → slice_get images i ≡ Some (Double a b) → slice_index pairs (a * n + b) ≡ i
+  pub ones : (i a : ℕ) → i < k → slice_get images i ≡ Some (image.One a) → slice_index singles a ≡ i
+  pub twos : (i a b : ℕ) → i < k → slice_get images i ≡ Some (image.Two a b) → slice_index pairs (a * n + b) ≡ i
 
 -- the list of single tiles with image number i noted at its tile
 abbrev pub note_single : Image → ℕ → List ℕ → List ℕ
-note_single (Single a) i singles = slice_set singles a i
-note_single (Double a b) i singles = singles
+note_single (image.One a) i singles = slice_set singles a i
+note_single (image.Two a b) i singles = singles
 
 -- the list of pairs of tiles, n in a row, with image number i noted at its two
 abbrev pub note_pair : ℕ → Image → ℕ → List ℕ → List ℕ
-note_pair n (Single a) i pairs = pairs
-note_pair n (Double a b) i pairs = slice_set pairs (a * n + b) i
+note_pair n (image.One a) i pairs = pairs
+note_pair n (image.Two a b) i pairs = slice_set pairs (a * n + b) i
 
 -- the coarse tile of cell j of a block
 abbrev pub block_tile : RawStep → Grid → List ℕ → List ℕ → Block → ℕ → ℕ

@@ -3,7 +3,7 @@ use Rattle.std.specs.Prelude.{ℕ, ◌+◌, ◌≡◌, ◌≤◌, length, take, 
 use Rattle.wt_grid.specs.Unless.{unless}
 use Rattle.std.specs.List.{list_any, list_all}
 use Rattle.wt_grid.specs.Axes.{same_axis}
-use Rattle.wt_grid.specs.declared.image.Image.TheVariants.{One as Single, Two as Double}
+use Rattle.wt_grid.specs.declared.image.Image.TheVariants as image
 use Rattle.wt_grid.specs.declared.image.Image.{Image}
 use Rattle.wt_grid.specs.declared.axis.Axis.TheVariants.{One, Two}
 use Rattle.wt_grid.specs.declared.axis.Axis.{Axis}
@@ -106,8 +106,8 @@ marker_fault s axis = first_in (marker_fault_at s axis) (allowed s axis)
 
 -- an image is a non-marker, or an allowed pair of the axis that is a block
 abbrev pub is_good_image : RawStep → Image → Bool
-is_good_image s (Single a) = not (is_marker s a)
-is_good_image s (Double a b) = allows s s.axis a b && is_block s a b
+is_good_image s (image.One a) = not (is_marker s a)
+is_good_image s (image.Two a b) = allows s s.axis a b && is_block s a b
 
 -- image i is neither of these, or it came before
 abbrev pub image_fault_at : RawStep → ℕ → Option StepFault
@@ -125,7 +125,7 @@ is_demanded s u = not (is_marker s u) && list_any (demands s u) (allowed s s.axi
 
 -- tile u has to be an image and is none
 abbrev pub missing_tile_at : RawStep → ℕ → Option StepFault
-missing_tile_at s u = unless (not (is_demanded s u) || list_any (same_image (Single u)) s.images) (MissingTile u)
+missing_tile_at s u = unless (not (is_demanded s u) || list_any (same_image (image.One u)) s.images) (MissingTile u)
 
 -- the first such tile
 abbrev pub missing_tile : RawStep → Option StepFault
@@ -133,7 +133,7 @@ missing_tile s = first_from (missing_tile_at s) 0 (length s.fine.tiles)
 
 -- an allowed pair is a block and no image
 abbrev pub missing_pair_at : RawStep → ℕ × ℕ → Option StepFault
-missing_pair_at s p = unless (not (is_block s p.0 p.1) || list_any (same_image (Double p.0 p.1)) s.images) (MissingPair p.0 p.1)
+missing_pair_at s p = unless (not (is_block s p.0 p.1) || list_any (same_image (image.Two p.0 p.1)) s.images) (MissingPair p.0 p.1)
 
 -- the first such pair of the axis
 abbrev pub missing_pair : RawStep → Option StepFault

@@ -1,7 +1,7 @@
 -- Good steps, each as a record of what holds. The first fault of a step says the same (`good_steps`, `good_restricts`).
 use Rattle.std.specs.Prelude.{ℕ, ◌≡◌, ◌<◌, ◌≤◌, [], length, take, slice_get, Some, true, false, not}
 use Rattle.std.specs.List.{list_any}
-use Rattle.wt_grid.specs.declared.image.Image.TheVariants.{One as Single, Two as Double}
+use Rattle.wt_grid.specs.declared.image.Image.TheVariants as image
 use Rattle.wt_grid.specs.declared.axis.Axis.{Axis}
 use Rattle.wt_tile.specs.Matching.{matches}
 use Rattle.wt_step.specs.declared.raw.RawStep.{RawStep}
@@ -41,8 +41,8 @@ pub record IsGoodStep (s : RawStep) : Type 0 where
   -- and comes once
   pub distinct : (i : ℕ) → i < length s.images → list_any (same_image (image_at s i)) (take i s.images) ≡ false
   -- each non-marker that an allowed pair demands is an image, and so is each such pair
-  pub has_tiles : (u : ℕ) → u < length s.fine.tiles → is_demanded s u ≡ true → list_any (same_image (Single u)) s.images ≡ true
-  pub has_pairs : (a b : ℕ) → allows s s.axis a b ≡ true → is_block s a b ≡ true → list_any (same_image (Double a b)) s.images ≡ true
+  pub has_tiles : (u : ℕ) → u < length s.fine.tiles → is_demanded s u ≡ true → list_any (same_image (image.One u)) s.images ≡ true
+  pub has_pairs : (a b : ℕ) → allows s s.axis a b ≡ true → is_block s a b ≡ true → list_any (same_image (image.Two a b)) s.images ≡ true
   -- coarse tiles match as their images do
   pub joins : (axis : Axis) (i j : ℕ) → i < length s.coarse.tiles → j < length s.coarse.tiles
       → matches s.coarse.tiles axis i j ≡ images_match s axis (image_at s i) (image_at s j)

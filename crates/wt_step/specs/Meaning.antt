@@ -1,6 +1,6 @@
 -- What a step means for rectangles.
 use Rattle.std.specs.Prelude.{ℕ, ◌≡◌, ◌<◌, Bool, true, List, map}
-use Rattle.wt_grid.specs.declared.image.Image.TheVariants.{One as Single}
+use Rattle.wt_grid.specs.declared.image.Image.TheVariants as image
 use Rattle.wt_grid.specs.declared.image.Image.{Image}
 use Rattle.wt_grid.specs.declared.axis.Side.TheVariants.{After, Before}
 use Rattle.wt_grid.specs.declared.axis.Side.{Side}
@@ -38,7 +38,7 @@ IsMarkerDesubstitution s g q = IsImage (pieces s) (lines s.axis q) (cut_core s g
 
 -- each coarse tile stands for the fine tile that is kept at its place
 abbrev pub kept_pieces : RawRestrict → List Image
-kept_pieces s = map Single s.kept
+kept_pieces s = map image.One s.kept
 
 -- the coarse rectangle q has the whole core of g as its image
 abbrev pub IsRestriction : RawRestrict → Grid → Grid → Type 0

@@ -3,7 +3,7 @@ use Rattle.std.specs.Prelude.{ℕ, ◌+◌, List, slice_index_or, Option, Bool, 
 use Rattle.std.specs.List.{list_any, find}
 use Rattle.wt_grid.specs.Axes.{same_axis}
 use Rattle.wt_grid.specs.Images.{first_tile, last_tile}
-use Rattle.wt_grid.specs.declared.image.Image.TheVariants.{One as Single, Two as Double}
+use Rattle.wt_grid.specs.declared.image.Image.TheVariants as image
 use Rattle.wt_grid.specs.declared.image.Image.{Image}
 use Rattle.wt_grid.specs.declared.axis.Side.TheVariants.{After, Before}
 use Rattle.wt_grid.specs.declared.axis.Side.{Side}
@@ -27,22 +27,22 @@ entry_fits radius n r = nat_le r.radius radius && nat_lt r.a n && nat_lt r.b n
 
 -- the tiles of an image are among n
 abbrev pub image_fits : ℕ → Image → Bool
-image_fits n (Single a) = nat_lt a n
-image_fits n (Double a b) = nat_lt a n && nat_lt b n
+image_fits n (image.One a) = nat_lt a n
+image_fits n (image.Two a b) = nat_lt a n && nat_lt b n
 
 -- two images are equal
 abbrev pub same_image : Image → Image → Bool
-same_image (Single a) (Single b) = nat_eq a b
-same_image (Single a) (Double c d) = false
-same_image (Double a b) (Single c) = false
-same_image (Double a b) (Double c d) = nat_eq a c && nat_eq b d
+same_image (image.One a) (image.One b) = nat_eq a b
+same_image (image.One a) (image.Two c d) = false
+same_image (image.Two a b) (image.One c) = false
+same_image (image.Two a b) (image.Two c d) = nat_eq a c && nat_eq b d
 
 -- images of one length match piece by piece
 abbrev pub pieces_match : List Tile → Axis → Image → Image → Bool
-pieces_match ts axis (Single a) (Single b) = matches ts axis a b
-pieces_match ts axis (Single a) (Double c d) = false
-pieces_match ts axis (Double a b) (Single c) = false
-pieces_match ts axis (Double a b) (Double c d) = matches ts axis a c && matches ts axis b d
+pieces_match ts axis (image.One a) (image.One b) = matches ts axis a b
+pieces_match ts axis (image.One a) (image.Two c d) = false
+pieces_match ts axis (image.Two a b) (image.One c) = false
+pieces_match ts axis (image.Two a b) (image.Two c d) = matches ts axis a c && matches ts axis b d
 
 -- What a step says.
 
@@ -91,7 +91,7 @@ demands s u p = demands_by s.side s u p
 
 -- the image of coarse tile i; tile 0 past the last
 abbrev pub image_at : RawStep → ℕ → Image
-image_at s i = slice_index_or s.images i (Single 0)
+image_at s i = slice_index_or s.images i (image.One 0)
 
 -- two images match: along the step's axis the last tile of the first with the first tile of the second, and along the other piece by piece
 abbrev pub images_match : RawStep → Axis → Image → Image → Bool

@@ -9,7 +9,7 @@ use Rattle.wt_torus.specs.declared.letter.Letter.{Letter}
 use Rattle.wt_torus.specs.declared.letter.Letter.TheVariants.{One, Unplaced, Doubled}
 use Rattle.wt_torus.specs.declared.coded.CodeFault.{CodeFault}
 use Rattle.wt_torus.specs.declared.coded.CodeFault.TheVariants.{OutsideBox, TooLarge}
-use Rattle.wt_torus.specs.declared.coded.CodeFault.TheVariants.{Unplaced as NoLabel, Doubled as TwoLabels}
+use Rattle.wt_torus.specs.declared.coded.CodeFault.TheVariants as fault
 use Rattle.wt_torus.specs.declared.partition.Partition.{Partition}
 use Rattle.wt_torus.specs.Boxes.{Rotation, is_below}
 use Rattle.wt_torus.specs.Rotation.{orbit}
@@ -65,8 +65,8 @@ is_in_square r z = not (is_positive (opposite z.x)) && is_below z.x z.d r.width 
 abbrev pub letter_fault : ℕ → ℕ → Option Letter → Option CodeFault
 letter_fault i j None = Some TooLarge
 letter_fault i j (Some (One a)) = None
-letter_fault i j (Some Unplaced) = Some (NoLabel i j)
-letter_fault i j (Some Doubled) = Some (TwoLabels i j)
+letter_fault i j (Some Unplaced) = Some (fault.Unplaced i j)
+letter_fault i j (Some Doubled) = Some (fault.Doubled i j)
 
 -- the fault of cell i of row j
 abbrev pub cell_fault : Partition → Spot → ℕ → ℕ → Option CodeFault
