@@ -1,4 +1,4 @@
--- Labels that renamings keep.
+-- Scaffolding: labels that renamings keep.
 use Rattle.std.specs.Prelude.{ℕ, ◌≡◌, ◌<◌, List, length, take, slice_index}
 use Rattle.wt_grid.specs.declared.axis.Axis.{Axis}
 use Rattle.wt_tile.specs.declared.tile.Tile.{Tile}

@@ -1,4 +1,4 @@
--- Labels of tiles: numbers that tell tiles of two sets apart which no renaming carries onto each other.
+-- Scaffolding: labels of tiles: numbers that tell tiles of two sets apart which no renaming carries onto each other.
 use Rattle.std.specs.Prelude.{ℕ, zero, suc, ◌+◌, ◌*◌, ◌%◌, ◌^◌, List, length, map, slice_index, slice_set, nat_eq, nat_lt, if◌then◌else◌}
 use Rattle.wt_grid.specs.declared.axis.Axis.TheVariants.{One, Two}
 use Rattle.wt_grid.specs.declared.axis.Axis.{Axis}

@@ -1,4 +1,4 @@
--- How values of the code stand for what is read.
+-- Scaffolding: how values of the code stand for what is read.
 use Rattle.std.specs.Prelude.{ℕ, List, [], ◌∷◌, ◌++◌, Result, Ok, Err}
 use Rattle.wt_grid.specs.declared.axis.Axis.{Axis}
 use Rattle.wt_line.specs.declared.places.Place.{Place}

@@ -1,4 +1,4 @@
--- Tables that say for each tile whether its image is at least two long.
+-- Scaffolding: tables that say for each tile whether its image is at least two long.
 use Rattle.std.specs.Prelude.{ℕ, zero, suc, ◌≡◌, ◌<◌, ◌≤◌, List, [], ◌∷◌, map, replicate, Bool, false, ◌||◌, nat_le, slice_index_or}
 use Rattle.wt_grid.specs.declared.image.Image.TheVariants as image
 use Rattle.wt_grid.specs.declared.image.Image.{Image}

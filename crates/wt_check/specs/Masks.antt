@@ -1,4 +1,4 @@
--- Masks that say for each tile which tiles stand in what it stands for.
+-- Scaffolding: masks that say for each tile which tiles stand in what it stands for.
 use Rattle.std.specs.Prelude.{◌≡◌, ℕ, ◌<◌, max, min, List, [], ◌∷◌, length}
 use Rattle.wt_grid.specs.Traces.{piece_tiles}
 use Rattle.wt_grid.specs.declared.image.Image.TheVariants as image

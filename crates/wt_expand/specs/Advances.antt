@@ -1,4 +1,4 @@
--- The counter goes to the next row, up or down: one bit flips, and all rows below its level are laid anew.
+-- Scaffolding: the counter goes to the next row, up or down: one bit flips, and all rows below its level are laid anew.
 use Rattle.std.specs.Prelude.{◌≡◌, ℕ, ◌+◌, Bool, true, false, if◌then◌else◌, List, [], ◌∷◌, Option, None, Some}
 use Rattle.wt_expand.specs.declared.advance.Direction.{Direction}
 use Rattle.wt_expand.specs.declared.advance.Direction.TheVariants.{Up, Down}

@@ -1,4 +1,4 @@
--- The levels that a counter has, and its digits.
+-- Scaffolding: the levels that a counter has, and its digits.
 use Rattle.std.specs.Prelude.{◌≡◌, ℕ, ◌*◌, Bool, List, [], drop, slice_get, slice_index_or, Some}
 use Rattle.wt_grid.specs.declared.image.Image.{Image}
 use Rattle.wt_expand.specs.declared.counter.Counter.{Counter}

@@ -1,4 +1,4 @@
--- Which rows are laid below a row.
+-- Scaffolding: which rows are laid below a row.
 use Rattle.std.specs.Prelude.{◌≡◌, ℕ, Bool, false, List, [], ◌∷◌, take, slice_index_or}
 use Rattle.wt_grid.specs.declared.image.Image.{Image}
 use Rattle.wt_grid.specs.declared.axis.Axis.TheVariants.{One, Two}

@@ -1,4 +1,4 @@
--- What the tiles of a row stand for, kept in tables.
+-- Scaffolding: what the tiles of a row stand for, kept in tables.
 use Rattle.std.specs.Prelude.{◌≡◌, ℕ, ◌<◌, ◌≤◌, List, length, slice_index}
 use Rattle.wt_grid.specs.declared.image.Image.{Image}
 use Rattle.wt_grid.specs.Images.{first_tile, last_tile}

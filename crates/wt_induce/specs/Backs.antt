@@ -1,4 +1,4 @@
--- Regions moved back, and what they are paired to.
+-- Scaffolding: regions moved back, and what they are paired to.
 use Rattle.std.specs.Prelude.{ℕ, List, [], ◌∷◌, ◌++◌, map, Option, None, Some, if◌then◌else◌}
 use Rattle.std.specs.List.{list_all, flat_map}
 use Rattle.wt_grid.specs.declared.axis.Axis.{Axis}

@@ -1,4 +1,4 @@
--- The zones of an axis, as the code keeps them.
+-- Scaffolding: the zones of an axis, as the code keeps them.
 use Rattle.std.specs.Prelude.{◌≡◌, not}
 use Rattle.wt_grid.specs.declared.axis.Axis.{Axis}
 use Rattle.wt_torus.specs.Boxes.{Rotation}

@@ -1,4 +1,4 @@
--- The lines of an image, each with the line of the pattern that it comes from.
+-- Scaffolding: the lines of an image, each with the line of the pattern that it comes from.
 use Rattle.std.specs.Prelude.{ℕ, zero, suc, ◌+◌, ◌/◌, ◌%◌, Bool, true, false, List, [], ◌∷◌, slice_index_or, if◌then◌else◌}
 use Rattle.wt_grid.specs.Images.{piece_at}
 use Rattle.wt_grid.specs.declared.image.Image.TheVariants as image

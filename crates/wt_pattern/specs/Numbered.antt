@@ -1,4 +1,4 @@
--- Rows that are read one after the other, with the names that were seen before.
+-- Scaffolding: rows that are read one after the other, with the names that were seen before.
 use Rattle.std.specs.Prelude.{ℕ, List, Option, Result}
 use Rattle.wt_tile.specs.declared.tile.Tile.{Tile}
 use Rattle.wt_text.specs.Readers.{both}

@@ -1,4 +1,4 @@
--- What is found row by row: the colours along a line of cells, and the first fault of a row.
+-- Scaffolding: what is found row by row: the colours along a line of cells, and the first fault of a row.
 use Rattle.std.specs.Prelude.{ℕ, Bool, nat_le, List, map, Option, None, Some, if◌then◌else◌}
 use Rattle.wt_grid.specs.declared.axis.Axis.TheVariants.{One, Two}
 use Rattle.wt_grid.specs.declared.axis.Axis.{Axis}

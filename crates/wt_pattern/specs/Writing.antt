@@ -1,4 +1,4 @@
--- The bytes of a tile's row.
+-- Scaffolding: the bytes of a tile's row.
 use Rattle.std.specs.Prelude.{ℕ, List, [], ◌∷◌, ◌++◌}
 use Rattle.wt_tile.specs.declared.tile.Tile.{Tile}
 use Rattle.wt_names.specs.Numbering.{name_at}

@@ -1,4 +1,4 @@
--- Lines of tiles that close, stacked: what each wrapping rectangle gives, repeated across its lines.
+-- Scaffolding: lines of tiles that close, stacked: what each wrapping rectangle gives, repeated across its lines.
 use Rattle.std.specs.Prelude.{◌≡◌, ℕ, ◌+◌, ◌-◌, ◌%◌, ◌<◌, ◌≤◌, ◌&&◌, Bool, true, false, nat_lt, Option, None, Some, List, length, slice_index, slice_index_or}
 use Rattle.wt_grid.specs.Axes.{other}
 use Rattle.wt_grid.specs.declared.axis.Axis.TheVariants.{One, Two}

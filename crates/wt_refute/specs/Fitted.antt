@@ -1,4 +1,4 @@
--- Which tiles fit a cell, as a mask, and how many fit the free cells.
+-- Scaffolding: which tiles fit a cell, as a mask, and how many fit the free cells.
 use Rattle.std.specs.Prelude.{◌≡◌, ℕ, Bool, true, ◌&&◌, nat_lt, List, length, Option, None, Some, slice_index}
 use Rattle.wt_tile.specs.declared.tile.Tile.{Tile}
 use Rattle.wt_lane.specs.Masks.{mask_bit}

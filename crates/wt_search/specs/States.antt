@@ -1,4 +1,4 @@
--- How far a search has come, and how far a step is lightened, as the code keeps it.
+-- Scaffolding: how far a search has come, and how far a step is lightened, as the code keeps it.
 use Rattle.std.specs.Prelude.{ℕ, ◌≡◌, ◌≤◌, length, Ok}
 use Rattle.wt_grid.specs.declared.axis.Axis.TheVariants.{One, Two}
 use Rattle.wt_step.specs.declared.raw.RawStep.{RawStep}

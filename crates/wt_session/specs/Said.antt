@@ -1,4 +1,4 @@
--- What the code's answers say of replies.
+-- Scaffolding: what the code's answers say of replies.
 use Rattle.std.specs.Prelude.{◌≡◌, ℕ, List, Result, Ok, Err}
 use Rattle.wt_session.specs.declared.reply.Answer.{Answer}
 use Rattle.wt_session.specs.declared.reply.Answer.TheVariants.{Says, Binds}

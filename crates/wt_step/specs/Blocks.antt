@@ -1,4 +1,4 @@
--- How a pattern is read: blocks of one or two lines, and the coarse tile of each.
+-- Scaffolding: how a pattern is read: blocks of one or two lines, and the coarse tile of each.
 use Rattle.std.specs.Prelude.{ℕ, zero, suc, ◌+◌, ◌-◌, ◌*◌, ◌/◌, ◌%◌, ◌<◌, ◌≡◌, Bool, true, false, ◌&&◌, nat_lt, List, [], ◌∷◌, length, slice_get, slice_index, slice_index_or, slice_set, Some, if◌then◌else◌}
 use Rattle.wt_grid.specs.declared.image.Image.TheVariants as image
 use Rattle.wt_grid.specs.declared.image.Image.{Image}

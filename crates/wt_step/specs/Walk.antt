@@ -1,4 +1,4 @@
--- Where the sorted lists of a step stand at a pair of tiles.
+-- Scaffolding: where the sorted lists of a step stand at a pair of tiles.
 use Rattle.std.specs.Prelude.{ℕ, suc, ◌≡◌, ◌≤◌, List, [], ◌∷◌, Bool, if◌then◌else◌, slice_index}
 use Rattle.wt_grid.specs.declared.axis.Axis.{Axis}
 use Rattle.wt_grid.specs.Pairs.{pair_before}

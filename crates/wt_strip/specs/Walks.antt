@@ -1,4 +1,4 @@
--- Rows that are filled column by column, with the tiles that each column allows.
+-- Scaffolding: rows that are filled column by column, with the tiles that each column allows.
 use Rattle.std.specs.Prelude.{◌≡◌, ◌⊎◌, ℕ, suc, ◌<◌, ◌≤◌, List, [], length, slice_index, slice_index_or, Bool, true, false}
 use Rattle.wt_tile.specs.declared.tile.Tile.{Tile}
 use Rattle.wt_grid.specs.declared.axis.Axis.TheVariants.{One}

@@ -1,4 +1,4 @@
--- The letters of cells, by the coordinates of their columns and rows.
+-- Scaffolding: the letters of cells, by the coordinates of their columns and rows.
 use Rattle.std.specs.Prelude.{ℕ, ◌/◌, ◌%◌, List, length, slice_index_or, Option, None, Some}
 use Rattle.wt_golden.specs.Fractions.{Fraction}
 use Rattle.wt_plane.specs.HalfPlanes.{spot}

@@ -1,4 +1,4 @@
--- Numbers whose two parts have opposite signs, and others.
+-- Scaffolding: numbers whose two parts have opposite signs, and others.
 use Rattle.std.specs.Prelude.{ℕ, ◌+◌, ℤ, pos, ◌<ℤ◌, ◌≤ℤ◌, ◌⊎◌, int_lt, unsigned_abs, Bool, ◌&&◌, ◌||◌, if◌then◌else◌}
 use Rattle.wt_golden.specs.Whole.{Whole}
 

@@ -1,4 +1,4 @@
--- Windows as a search of them holds them: a mask of tiles for each cell.
+-- Scaffolding: windows as a search of them holds them: a mask of tiles for each cell.
 use Rattle.std.specs.Prelude.{◌≡◌, ℕ, suc, ◌+◌, ◌-◌, ◌*◌, ◌%◌, ◌<◌, ◌≤◌, true, ◌&&◌, nat_lt, nat_le, if◌then◌else◌, Option, None, Some, List, length, take, slice_index}
 use Rattle.wt_grid.specs.declared.axis.Axis.TheVariants.{One, Two}
 use Rattle.wt_grid.specs.declared.axis.Axis.{Axis}
