@@ -23,7 +23,7 @@ fn makes_lowest_terms(rt: HostRuntime) -> Result<(), Fail> {
         ([1, 1, 0], (0, 0, 0)),
     ];
     for (numbers, want) in rows {
-        assert!(rt; parts(Golden::new(numbers[0], numbers[1], numbers[2])) == want);
+        assert_eq!(rt; parts(Golden::new(numbers[0], numbers[1], numbers[2])), want);
     }
     assert!(rt; matches!(Golden::new(1, 1, 0), Err(GoldenFault::ZeroDivisor)));
     assert!(rt; matches!(Golden::new(1_073_741_824, 0, 1), Err(GoldenFault::TooLarge)));
@@ -42,21 +42,21 @@ fn reckons(rt: HostRuntime) -> Result<(), Fail> {
         assert!(rt; matches!(half.sub(phi), Ok(g) if g.parts() == (1, -2, 2)));
         assert!(rt; most.add(half).is_err());
         assert!(rt; matches!(most.mul(phi), Ok(g) if g.parts() == (0, 1_073_741_823, 1)));
-        assert!(rt; phi.compare(half) == Ordering::Greater);
-        assert!(rt; half.compare(half) == Ordering::Equal);
-        assert!(rt; half.compare(most) == Ordering::Less);
+        assert_eq!(rt; phi.compare(half), Ordering::Greater);
+        assert_eq!(rt; half.compare(half), Ordering::Equal);
+        assert_eq!(rt; half.compare(most), Ordering::Less);
     }
     // (2 a + b)² and 5 b² of the difference have 119 bits, of which the first 42 are the same.
     if let (Ok(less), Ok(more)) = (
         Golden::new(-1_073_740_229, 1_073_741_016, 1_073_741_010),
         Golden::new(-652_623_754, 813_476_510, 1_073_740_457),
     ) {
-        assert!(rt; less.compare(more) == Ordering::Less);
-        assert!(rt; more.compare(less) == Ordering::Greater);
+        assert_eq!(rt; less.compare(more), Ordering::Less);
+        assert_eq!(rt; more.compare(less), Ordering::Greater);
     }
     if let (Ok(above), Ok(below)) = (Golden::new(2, -1, 1), Golden::new(-2, 1, 1)) {
-        assert!(rt; above.sign() == Ordering::Greater);
-        assert!(rt; below.sign() == Ordering::Less);
+        assert_eq!(rt; above.sign(), Ordering::Greater);
+        assert_eq!(rt; below.sign(), Ordering::Less);
     }
     Ok(())
 }

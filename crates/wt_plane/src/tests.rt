@@ -37,7 +37,7 @@ fn finds_clashes(rt: HostRuntime) -> Result<(), Fail> {
         ([up, corner, right], false),
     ];
     for (planes, want) in rows {
-        assert!(rt; clashing(planes) == want);
+        assert_eq!(rt; clashing(planes), want);
     }
     Ok(())
 }
@@ -82,10 +82,10 @@ fn keeps_what_counts(rt: HostRuntime) -> Result<(), Fail> {
         &[right, up, right, before_phi, [1, 0, 0, 0, 1, 0]],
     )?);
     let planes = kept.planes.as_slice();
-    assert!(rt; planes.len() == 3);
+    assert_eq!(rt; planes.len(), 3);
     let numbers = [up, right, before_phi];
     for (h, want) in planes.iter().zip(numbers.iter()) {
-        assert!(rt; h.numbers() == *want);
+        assert_eq!(rt; h.numbers(), *want);
     }
     Ok(())
 }
@@ -100,8 +100,8 @@ fn holds_points(rt: HostRuntime) -> Result<(), Fail> {
     ) {
         if let Ok(z) = Point::new(x, y) {
             assert!(rt; contains(&triangle, &z));
-            assert!(rt; z.x().parts() == (1, 0, 2));
-            assert!(rt; z.y().parts() == (-1, 1, 3));
+            assert_eq!(rt; z.x().parts(), (1, 0, 2));
+            assert_eq!(rt; z.y().parts(), (-1, 1, 3));
             match clip(triangle, h) {
                 Ok(part) => assert!(rt; contains(&part, &z)),
                 Err(_) => assert!(rt; false),
