@@ -51,7 +51,7 @@ next_label tiles labels i =
 unfoldable pub next_labels : List Tile → List ℕ → List ℕ
 next_labels tiles labels = map (next_label tiles labels) (range_with_len 0 MAX_TILES)
 
--- so many rounds
+-- n rounds
 abbrev pub rounds : List Tile → ℕ → List ℕ → List ℕ
 rounds tiles zero labels = labels
 rounds tiles (suc n) labels = rounds tiles n (next_labels tiles labels)

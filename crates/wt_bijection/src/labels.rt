@@ -96,7 +96,7 @@ fn next_labels(tiles: &[Tile], labels: &Labels) -> Labels
     next
 }
 
-/// The labels after so many rounds.
+/// The labels after n rounds.
 #[tactic(auto, using(crate::proofs::Sums::rounds_more, crate::proofs::Kept::next_length))]
 pub fn rounds(tiles: &[Tile], count: u16, labels: &Labels) -> Labels
     requires { length tiles.now ≤ MAX_TILES }
@@ -158,7 +158,7 @@ pub fn apart_labels(tiles: &[Tile], count: u16, labels: &Labels) -> Labels
     next
 }
 
-/// How many different labels so many tiles have.
+/// How many different labels n tiles have.
 fn count_labels(labels: &Labels, count: usize) -> usize
     requires { count ≤ MAX_TILES }
 {

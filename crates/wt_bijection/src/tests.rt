@@ -48,7 +48,7 @@ fn names(alloc: Global, count: usize) -> Result<Seq<Name>, AllocError> {
     Ok(Seq::new(names))
 }
 
-/// Tiles of so many colours on each axis, each colour a letter.
+/// Tiles of n colours on each axis, each colour a letter.
 fn list(
     alloc: Global,
     tiles: &[[u16; 4]],

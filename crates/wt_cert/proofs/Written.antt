@@ -33,7 +33,7 @@ bytes_both (l ∷ ls) b = ap (λ (x : List ℕ). l.text ++ (if l.ended then 10 �
 pub bytes_line : (t : List ℕ) (ts : List (List ℕ)) → bytes_of (line_of (t ∷ ts) ∷ []) ≡ t ++ (behind_spaces ts ++ 10 ∷ [])
 bytes_line t ts = ap (λ (x : List ℕ). x ++ 10 ∷ []) (spaced_first t ts) ∙ append_assoc t (behind_spaces ts) (10 ∷ [])
 
--- a word, a count and so many numbers
+-- a word, a count and n numbers
 pub list_written : (out word a b c d : List ℕ) (n : ℕ) (ns : List ℕ) → a ≡ out ++ word → b ≡ a ++ 32 ∷ decimal n → c ≡ b ++ behind_spaces (map decimal ns) → d ≡ c ++ 10 ∷ [] → d ≡ out ++ bytes_of (line_of (word ∷ decimal n ∷ map decimal ns) ∷ [])
 list_written out word a b c d n ns ea eb ec ed = rw (ed, ec, eb, ea, bytes_line word (decimal n ∷ map decimal ns)) (simp append_assoc refl)
 

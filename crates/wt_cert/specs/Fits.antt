@@ -57,14 +57,14 @@ abbrev pub IsWritableRadius : Version → ℕ → ℕ → Type 0
 IsWritableRadius versions.One r radius = radius ≡ r
 IsWritableRadius versions.Two r radius = radius ≤ 4
 
--- a refutation in a step of radius r, where so many nodes came before
+-- a refutation in a step of radius r, where n nodes came before
 pub record IsWritableRefutation (version : Version) (r nodes : ℕ) (x : Refuted) : Type 0 where
   pub small_a : IsSmall x.a
   pub small_b : IsSmall x.b
   pub radius : IsWritableRadius version r x.radius
   pub tree : IsWritableTree (may_cite version) 90 nodes (refutation x.tree)
 
--- a lost tile, where so many nodes came before
+-- a lost tile, where n nodes came before
 pub record IsWritableLoss (nodes : ℕ) (x : Lost) : Type 0 where
   pub small : IsSmall x.tile
   pub tree : IsWritableTree true 90 nodes (refutation x.tree)
@@ -77,7 +77,7 @@ AreWritableRefutations version r nodes xs = (length xs ≤ 131072) × FitInTurn 
 abbrev pub AreWritableLosses : ℕ → List Lost → Type 0
 AreWritableLosses nodes xs = (length xs ≤ MAX_TILES) × FitInTurn IsWritableLoss with_lost nodes xs
 
--- a marker step, where so many nodes came before
+-- a marker step, where n nodes came before
 pub record IsWritableMarker (version : Version) (nodes : ℕ) (s : RawStep) : Type 0 where
   pub radius : s.radius ≤ 4
   pub fine : AreWritableTiles s.fine
@@ -88,7 +88,7 @@ pub record IsWritableMarker (version : Version) (nodes : ℕ) (s : RawStep) : Ty
   pub refuted : AreWritableRefutations version s.radius nodes s.refuted
   pub images : AreWritableImages s.images
 
--- a restrict step, where so many nodes came before
+-- a restrict step, where n nodes came before
 pub record IsWritableRestrict (nodes : ℕ) (s : RawRestrict) : Type 0 where
   pub radius : s.radius ≤ 4
   pub fine : AreWritableTiles s.fine

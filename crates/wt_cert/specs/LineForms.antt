@@ -25,7 +25,7 @@ alone_form w = whole (value_behind w (given tt))
 unfoldable pub count_form : List ℕ → ℕ → What → List (List ℕ) → Result ℕ (LineFault What)
 count_form w most what = whole (value_behind w (number_to most what))
 
--- a word, a count, and so many numbers
+-- a word, a count, and n numbers
 unfoldable pub numbers_form : List ℕ → List (List ℕ) → Result (List ℕ) (LineFault What)
 numbers_form w = whole (value_behind w (counted_numbers MAX_TILES Tiles MOST Number))
 
@@ -86,13 +86,13 @@ abbrev pub radius_in : Version → ℕ → List (List ℕ) → Option (Result �
 radius_in versions.One r ts = given r ts
 radius_in versions.Two r ts = radius ts
 
--- a refutation, after trees of so many nodes
+-- a refutation, after trees of n nodes
 unfoldable pub refuted_form : Version → ℕ → ℕ → List (List ℕ) → Result (Axis × (ℕ × (ℕ × (ℕ × Refutation)))) (LineFault What)
 refuted_form version r nodes = whole (both axis (both small (both small (both (radius_in version r) (tree_to_end (may_cite version) nodes)))))
 
 -- ---- lost: t TREE
 
--- a lost tile with its tree, after trees of so many nodes
+-- a lost tile with its tree, after trees of n nodes
 unfoldable pub lost_form : ℕ → List (List ℕ) → Result (ℕ × Refutation) (LineFault What)
 lost_form nodes = whole (both small (tree_to_end true nodes))
 

@@ -41,7 +41,7 @@ allowed_part a = counted_parts (one_line (allowed_form a)) (λ s. one_line pair_
 abbrev pub to_refuted : Axis × (ℕ × (ℕ × (ℕ × Refutation))) → Refuted
 to_refuted x = record { axis = x.0; a = x.1.0; b = x.1.1.0; radius = x.1.1.1.0; tree = tree_of x.1.1.1.1 }
 
--- a refutation, where so many nodes came before
+-- a refutation, where n nodes came before
 unfoldable pub refuted_row : Version → ℕ → ℕ → ℕ × List Line → Result (Refuted × (ℕ × List Line)) (TextFault What)
 refuted_row version r nodes = seen_as to_refuted (one_line (refuted_form version r nodes))
 
@@ -49,7 +49,7 @@ refuted_row version r nodes = seen_as to_refuted (one_line (refuted_form version
 abbrev pub with_refuted : ℕ → Refuted → ℕ
 with_refuted nodes r = nodes + node_count (refutation r.tree)
 
--- the list of a step's refutations, after trees of so many nodes
+-- the list of a step's refutations, after trees of n nodes
 unfoldable pub refuted_part : Version → ℕ → ℕ → ℕ × List Line → Result (List Refuted × (ℕ × List Line)) (TextFault What)
 refuted_part version r nodes = counted_parts (one_line (count_form (codes "refuted") 131072 Pairs)) (refuted_row version r) with_refuted nodes
 
@@ -59,7 +59,7 @@ refuted_part version r nodes = counted_parts (one_line (count_form (codes "refut
 abbrev pub to_lost : ℕ × Refutation → Lost
 to_lost x = record { tile = x.0; tree = tree_of x.1 }
 
--- a lost tile, after trees of so many nodes
+-- a lost tile, after trees of n nodes
 unfoldable pub lost_row : ℕ → ℕ × List Line → Result (Lost × (ℕ × List Line)) (TextFault What)
 lost_row nodes = seen_as to_lost (one_line (lost_form nodes))
 
@@ -67,7 +67,7 @@ lost_row nodes = seen_as to_lost (one_line (lost_form nodes))
 abbrev pub with_lost : ℕ → Lost → ℕ
 with_lost nodes x = nodes + node_count (refutation x.tree)
 
--- the list of a step's lost tiles, after trees of so many nodes
+-- the list of a step's lost tiles, after trees of n nodes
 unfoldable pub lost_part : ℕ → ℕ × List Line → Result (List Lost × (ℕ × List Line)) (TextFault What)
 lost_part nodes = counted_parts (one_line (count_form (codes "lost") MAX_TILES Tiles)) lost_row with_lost nodes
 
@@ -75,7 +75,7 @@ lost_part nodes = counted_parts (one_line (count_form (codes "lost") MAX_TILES T
 unfoldable pub images_part : ℕ × List Line → Result (List Image × (ℕ × List Line)) (TextFault What)
 images_part = counted_parts (one_line (count_form (codes "images") MAX_TILES Tiles)) (λ s. one_line image_form) no_state 0
 
--- ---- the block of a step behind its first line, where so many nodes came before
+-- ---- the block of a step behind its first line, where n nodes came before
 
 -- what is read of a marker step, as a value
 abbrev pub to_marker : Axis × (Side × ℕ) → TileList × (TileList × (List ℕ × (List (ℕ × ℕ) × (List (ℕ × ℕ) × (List Refuted × List Image))))) → RawLink

@@ -30,7 +30,7 @@ use Rattle.wt_cert.specs.Trees.{tree_spelling}
 abbrev pub line : List (List ℕ) → List Line
 line ts = line_of ts ∷ []
 
--- a word and a count, or a word, a count and so many numbers
+-- a word and a count, or a word, a count and n numbers
 abbrev pub count_tokens : List ℕ → ℕ → List (List ℕ)
 count_tokens w n = w ∷ decimal n ∷ []
 

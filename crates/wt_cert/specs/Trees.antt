@@ -46,7 +46,7 @@ owed_by None = 0
 owed_by (Some (children n)) = n
 owed_by (Some (cites axis)) = 0
 
--- what is owed, held at the last value of u64
+-- what is owed, saturating at the last value of u64
 abbrev pub held_owed : Option Ending → Option ℕ
 held_owed None = None
 held_owed (Some (children n)) = Some (min n (2 ^ 64 - 1))
@@ -65,7 +65,7 @@ is_forest citing (suc n) ts = false
 abbrev pub IsNoForest : Bool → List (List ℕ) → Type 0
 IsNoForest citing ts = (n : ℕ) → is_forest citing (suc n) ts ≡ false
 
--- the first child of these owes so many, and the rest follows it
+-- the first child of these owes n, and the rest follows it
 abbrev pub IsForestOf : Bool → List (List ℕ) → ℕ → List (List ℕ) → Type 0
 IsForestOf citing ts owed rest = (n : ℕ) → is_forest citing (suc n) ts ≡ is_forest citing (n + owed) rest
 
@@ -81,7 +81,7 @@ abbrev pub limited : ℕ → What → Option ℕ → Result ℕ (LineFault What)
 limited most what None = Err wrong
 limited most what (Some n) = if nat_le n most then Ok n else Err (past what)
 
--- a cell's number, where so many nodes came before
+-- a cell's number, where n nodes came before
 abbrev pub cell_in : ℕ → List ℕ → Result ℕ (LineFault What)
 cell_in nodes t = if nat_lt nodes 1048576 then limited 65535 Number (number t) else Err (past Nodes)
 
@@ -91,7 +91,7 @@ ending_in None = Err wrong
 ending_in (Some (children n)) = if nat_le n MAX_TILES then Ok (children n) else Err (past Tiles)
 ending_in (Some (cites axis)) = Ok (cites axis)
 
--- so many branches
+-- n branches
 abbrev pub branches_in : (ℕ → List (List ℕ) → Result (Refutation × List (List ℕ)) (LineFault What)) → ℕ → ℕ → List (List ℕ) → Result (Branches × List (List ℕ)) (LineFault What)
 branches_in read zero nodes ts = Ok (no_more, ts)
 branches_in read (suc n) nodes [] = Err wrong
@@ -106,7 +106,7 @@ grown read cell nodes ts (children n) = branches_in read n nodes ts then λ b. O
 abbrev pub too_deep : ℕ → Result (Refutation × List (List ℕ)) (LineFault What)
 too_deep nodes = if nat_lt nodes 1048576 then Err (past Depth) else Err (past Nodes)
 
--- a tree of at most so many levels, where so many nodes came before
+-- a tree of at most d levels, where n nodes came before
 abbrev pub tree_in : Bool → ℕ → ℕ → List (List ℕ) → Result (Refutation × List (List ℕ)) (LineFault What)
 tree_in citing zero nodes ts = too_deep nodes
 tree_in citing (suc levels) nodes (cell ∷ count ∷ ts) = cell_in nodes cell then λ c. ending_in (ending citing count) then λ e. grown (tree_in citing levels) c (nodes + 1) ts e
@@ -118,11 +118,11 @@ found_tree (Ok x) = Some (Ok x.0, x.1)
 found_tree (Err (past what)) = Some (Err what, [])
 found_tree (Err wrong) = None
 
--- a tree to the end of the line: its form first, and then its limits, where a tree has at most 90 levels and so many nodes came before
+-- a tree to the end of the line: its form first, and then its limits, where a tree has at most 90 levels and n nodes came before
 unfoldable pub tree_to_end : Bool → ℕ → List (List ℕ) → Option (Result Refutation What × List (List ℕ))
 tree_to_end citing nodes ts = if is_tree citing ts then found_tree (tree_in citing 90 nodes ts) else None
 
--- trees within the limits: at most so many levels, and at most 1,048,576 nodes with those that came before
+-- trees within the limits: at most d levels, and at most 1,048,576 nodes with those that came before
 abbrev mutual
   pub IsWritableTree : Bool → ℕ → ℕ → Refutation → Type 0
   IsWritableTree citing zero nodes tree = ⊥

@@ -91,7 +91,7 @@ fn writes_what_it_read(rt: HostRuntime) -> Result<(), Fail> {
     Ok(())
 }
 
-/// The certificate with a refutation whose tree has so many levels.
+/// The certificate with a refutation whose tree has n levels.
 fn with_tree(alloc: Global, levels: usize) -> Result<Vec<u8>, AllocError> {
     let mut lines = String::new(alloc);
     lines.push_str("refuted 1\n1 0 1")?;

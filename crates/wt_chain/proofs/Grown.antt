@@ -125,7 +125,7 @@ next_is_table axis link rows left e table = record {
   some = λ t. step_some (is_along axis link) (image_of link t) left table.some;
 }
 
--- All steps, the renaming, and so many turns.
+-- All steps, the renaming, and n turns.
 
 climb_is_table : (axis : Axis) (links : List RawLink) (set : TileList) (rows : List Bool) (left : List Stage) → AreLinked set links
     → IsTable (length set.tiles) rows left → IsTable (length (last_set set links).tiles) (climb axis links rows) (stages axis links left)
@@ -159,7 +159,7 @@ unfolding link_fault
 fine_good (Marker s) e = set_none s.fine (good_step s e).fine
 fine_good (Restrict s) e = set_none s.fine (good_restrict s e).fine
 
--- after so many turns, for a loop of good steps whose renaming has no fault
+-- after n turns, for a loop of good steps whose renaming has no fault
 pub turns_are_table : (axis : Axis) (link : RawLink) (links : List RawLink) (renaming : List ℕ) (n : ℕ) → AreLinked (fine_of link) (link ∷ links)
     → renaming_fault (last_set (coarse_of link) links).tiles (fine_of link).tiles renaming ≡ None
     → IsTable (length (fine_of link).tiles) (turns_table axis (link ∷ links) renaming n) (turn_stages axis (link ∷ links) renaming n)

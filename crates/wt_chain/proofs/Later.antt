@@ -99,7 +99,7 @@ follow_below set (link ∷ links) u h lt =
     let f = first_fits link h.0 (follow links u) (follow_below (coarse_of link) links u h.2 lt) in
     rw (← h.1) f
 
--- the images that ever grow have grown after so many turns
+-- the images that ever grow have grown after n turns
 long_ever : (axis : Axis) (loop : List RawLink) (renaming : List ℕ) → IsClosedBy loop renaming → (e m t : ℕ) → first_count loop ≤ m → t < first_count loop
     → long axis loop renaming e t ≡ true → long axis loop renaming m t ≡ true
 long_ever axis [] renaming h e m t le lt l = absurd h

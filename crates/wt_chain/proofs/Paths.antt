@@ -74,7 +74,7 @@ module _ (c : ℕ → Bool) (g : ℕ → ℕ) (t : ℕ) where
       let f = search_from i 0 (λ l less. absurd (omega arith)) (let same : 0 + i ≡ i = omega arith in rw same e) in
       (f.0, first_is_early n below lt f.0 f.1, f.1.marked)
 
--- What w says of a tile after so many steps: that a mark was met.
+-- What w says of a tile after n steps: that a mark was met.
 module _ (c : ℕ → Bool) (g : ℕ → ℕ) (w : ℕ → ℕ → Bool) (start : (t : ℕ) → w 0 t ≡ false) (more : (e t : ℕ) → w (suc e) t ≡ (c t || w e (g t))) where
   met : (e t : ℕ) → w e t ≡ true → (i : ℕ) × (i < e) × (c (path g i t) ≡ true)
   met zero t h = absurd (clash h (start t))

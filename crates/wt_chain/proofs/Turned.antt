@@ -214,7 +214,7 @@ times_row axis loop renaming (suc n) g h =
 one_width : (ss : List Stage) (t : ℕ) → length (last_row ss (t ∷ [])) ≡ width ss t
 one_width ss t = length_last ss (t ∷ []) ∙ (let e : total (width ss) (t ∷ []) ≡ width ss t = omega arith in e)
 
--- the image of a tile after so many turns is as wide, and as high, as the stages of its axis say
+-- the image of a tile after n turns is as wide, and as high, as the stages of its axis say
 pub wide : (loop : List RawLink) (renaming : List ℕ) (n t : ℕ) → (turned_times loop renaming n (single t)).width ≡ width (turn_stages One loop renaming n) t
 wide loop renaming n t =
     sym (row_long One (turned_times loop renaming n (single t)))

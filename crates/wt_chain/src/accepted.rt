@@ -111,7 +111,7 @@ impl Accepted {
         self.raw
     }
 
-    /// An equal chain. Fails only for want of memory.
+    /// An equal chain. Fails only where memory runs out.
     pub fn copy(&self, alloc: Global) -> Result<Accepted, AllocError>
         ensures { IfOk result (λ copied. copied ≡ self.now) }
     {

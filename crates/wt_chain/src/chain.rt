@@ -73,7 +73,7 @@ fn push_fault(steps: &[RawLink], link: &Link) -> Option<PushFault>
 }
 
 impl Chain {
-    /// A chain of one step. The step comes back for want of memory alone.
+    /// A chain of one step. The step comes back only where memory runs out.
     pub fn start(alloc: Global, link: Link) -> Result<Chain, Link>
         ensures { MatchResult result (λ chain. chain ≡ link ∷ []) (λ e. e ≡ link) }
     {
@@ -89,7 +89,7 @@ impl Chain {
         }
     }
 
-    /// The chain with one step more. `NotNext` comes exactly where the step doesn't take apart the chain's last
+    /// The chain with one step more. `NotNext` is answered exactly where the step doesn't take apart the chain's last
     /// set, colours and names included; `TooMany` exactly where it does and 32 steps are held; else want of
     /// memory. The chain and the step come back.
     pub fn push_step(self, link: Link) -> Result<Chain, (Chain, Link, PushFault)>

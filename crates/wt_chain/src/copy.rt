@@ -37,7 +37,7 @@ fn copy_end(alloc: Global, end: &End) -> Result<End, AllocError>
     }
 }
 
-/// An equal chain, good or not. Fails only for want of memory.
+/// An equal chain, good or not. Fails only where memory runs out.
 pub fn copy_chain(alloc: Global, raw: &RawChain) -> Result<RawChain, AllocError>
     ensures { IfOk result (λ copied. copied ≡ raw.now) }
 {

@@ -133,7 +133,7 @@ fn renamed(
     next
 }
 
-/// The table of the loop's first set after so many turns.
+/// The table of the loop's first set after n turns.
 fn turned(axis: Axis, links: &[RawLink], renaming: &[u16], turns: u32) -> [bool; MAX_TILES]
     requires { length renaming.now ≤ MAX_TILES }
     ensures { result ≡ turns_table axis links.now renaming.now turns }
@@ -197,7 +197,7 @@ fn next_turn(
     renamed(renaming, origins, &climb(axis, links, rows))
 }
 
-/// The same, as the tables after so many turns tell it.
+/// The same, as the tables after n turns tell it.
 fn fault_after(
     links: &[RawLink],
     renaming: &[u16],

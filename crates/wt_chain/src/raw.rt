@@ -22,7 +22,7 @@ pub enum End {
         start: u16,
         /// For each tile of the last set its partner in the set of level `start`.
         renaming: Seq<u16>,
-        /// After so many turns of the loop, from 1 to 256 in a text, the image of each tile of level `start` is
+        /// After this many turns of the loop, from 1 to 256 in a text, the image of each tile of level `start` is
         /// at least two cells wide and two high.
         expansion: u32,
     },

@@ -8,15 +8,15 @@ use Rattle.wt_check.specs.Powers.{power, count, HasLarge, AreCounts}
 use Rattle.wt_check.specs.declared.counts.CensusFault.{CensusFault}
 use Rattle.wt_check.specs.declared.counts.CensusFault.TheVariants.{OpenChain, NoTile, TooLarge, OutOfMemory}
 
--- a tile stands 2^128 times or more in what so many turns or fewer make of a tile
+-- a tile stands 2^128 times or more in what n turns or fewer make of a tile
 abbrev pub IsTooLarge : List RawLink → List ℕ → ℕ → ℕ → Type 0
 IsTooLarge loop renaming turns tile = (k : ℕ) × (k ≤ turns) × HasLarge (power loop renaming k tile)
 
--- the counts of what so many turns make of a tile; none is too large
+-- the counts of what n turns make of a tile; none is too large
 abbrev pub AreCountsAfter : List RawLink → List ℕ → ℕ → ℕ → List ℕ → Type 0
 AreCountsAfter loop renaming turns tile counts = AreCounts counts (power loop renaming turns tile) × (IsTooLarge loop renaming turns tile → ⊥)
 
--- a number for each tile of the loop's first set: how often it stands in what so many turns make of a tile
+-- a number for each tile of the loop's first set: how often it stands in what n turns make of a tile
 abbrev pub IsLoopCensus : List RawLink → List ℕ → ℕ → ℕ → List ℕ → Type 0
 IsLoopCensus loop renaming turns tile counts =
     (length counts ≡ first_count loop) × ((u : ℕ) → u < first_count loop → slice_index counts u ≡ count u (power loop renaming turns tile))

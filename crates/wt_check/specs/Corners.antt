@@ -42,6 +42,6 @@ abbrev pub IsCarriedTable : Corner → List RawLink → List ℕ → List ℕ �
 IsCarriedTable c links old new = (set : TileList) (f : ℕ → ℕ) → AreLinked set links → AreTableOf (length set.tiles) old f
     → AreTableOf (length (last_set set links).tiles) new (λ t. f (corner_through c links t))
 
--- the table has for each tile of the loop's first set the tile at a corner of what so many turns make of it
+-- the table has for each tile of the loop's first set the tile at a corner of what n turns make of it
 abbrev pub AreCorners : Corner → List RawLink → List ℕ → ℕ → List ℕ → Type 0
 AreCorners c loop renaming turns table = AreTableOf (first_count loop) table (λ t. corner_of c (power loop renaming turns t))

@@ -1,4 +1,4 @@
--- What so many turns of a loop make of a tile of its first set, and how often a tile stands there.
+-- What n turns of a loop make of a tile of its first set, and how often a tile stands there.
 use Rattle.std.specs.Prelude.{◌≡◌, ℕ, zero, suc, ◌+◌, ◌*◌, ◌^◌, ◌<◌, ◌≤◌, nat_eq, if◌then◌else◌, List, [], ◌∷◌, length, drop, slice_index, Option, MatchOption}
 use Rattle.wt_grid.specs.Traces.{piece_tiles}
 use Rattle.wt_tile.specs.declared.tile.TileList.{TileList}
@@ -17,7 +17,7 @@ use Rattle.wt_grid.specs.declared.limits.TheConstants.{MAX_TILES}
 abbrev pub power : List RawLink → List ℕ → ℕ → ℕ → Grid
 power loop renaming turns tile = turned_times loop renaming turns (single tile)
 
--- what so many turns of a chain's loop make of a tile
+-- what n turns of a chain's loop make of a tile
 abbrev pub loop_power : {c : RawChain} → IsLooped c → ℕ → ℕ → Grid
 loop_power {c} loop turns tile = power (drop loop.start c.steps) loop.renaming turns tile
 

@@ -7,11 +7,11 @@ use Rattle.wt_chain.specs.Sets.{first_count}
 use Rattle.wt_check.specs.Powers.{power, count}
 use Rattle.wt_check.specs.Masks.{AreMasks}
 
--- each tile of the loop's first set stands in what so many turns make of each
+-- each tile of the loop's first set stands in what n turns make of each
 abbrev pub IsMixing : List RawLink → List ℕ → ℕ → Type 0
 IsMixing loop renaming turns = (a b : ℕ) → a < first_count loop → b < first_count loop → 0 < count b (power loop renaming turns a)
 
--- the masks say for each tile of the loop's first set which tiles stand in what so many turns make of it
+-- the masks say for each tile of the loop's first set which tiles stand in what n turns make of it
 abbrev pub ArePowers : List RawLink → List ℕ → ℕ → List (List ℕ) → Type 0
 ArePowers loop renaming turns rows = AreMasks (first_count loop) rows (λ u t. count u (power loop renaming turns t))
 

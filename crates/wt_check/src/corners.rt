@@ -104,7 +104,7 @@ fn next_power(
     renamed(origins, &climb(corner, links, table))
 }
 
-/// For each tile of a loop's first set the tile at a corner of what so many turns make of it.
+/// For each tile of a loop's first set the tile at a corner of what n turns make of it.
 pub fn corners(corner: Corner, links: &[RawLink], renaming: &[u16], turns: u32) -> [u16; MAX_TILES]
     requires closed { IsClosed links.now renaming.now }
     ensures { AreCorners corner links.now renaming.now turns result }

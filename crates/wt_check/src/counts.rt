@@ -123,7 +123,7 @@ fn fits(counts: &[u128])
     ensures { (u : ℕ) → slice_index counts.now u < 2 ^ 128 }
 {}
 
-/// How often each tile stands in what so many turns make of a tile, unless one stands 2^128 times or more
+/// How often each tile stands in what n turns make of a tile, unless one stands 2^128 times or more
 /// there or in what fewer turns make.
 fn counts_after(
     links: &[RawLink],
@@ -147,7 +147,7 @@ fn counts_after(
     Some(counts)
 }
 
-/// The census of a tile under so many turns of a loop.
+/// The census of a tile under n turns of a loop.
 fn loop_census(
     alloc: Global,
     links: &[RawLink],
@@ -186,10 +186,10 @@ pub enum CensusFault {
     OutOfMemory,
 }
 
-/// How often each tile of the set of level `start`, the loop's first set, stands in what so many turns of a
+/// How often each tile of the set of level `start`, the loop's first set, stands in what n turns of a
 /// chain's loop make of one of them: a number for each tile, in their order. The chain has to be looped, then
 /// the tile one of that set, and then each count of each turn from 0 on below 2^128; the first of these that
-/// fails is told. Else only memory can want.
+/// fails is told. Else memory alone can run out.
 pub fn census(alloc: Global, c: &Accepted, turns: u32, tile: u16) -> Result<Vec<u128>, CensusFault>
     requires { turns ≤ 4096 }
     ensures counts { IfOk result (λ counts. IsCensus c.now.steps c.now.end turns tile counts.items) }

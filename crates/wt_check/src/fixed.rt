@@ -226,9 +226,9 @@ fn loop_seeds(
 }
 
 /// The seeds of a power, from 1 to 64, of a chain's loop, ascending: the valid 2 by 2 patterns over the set
-/// of level `start` whose lower left tile is the upper right corner of what so many turns make of it, and
+/// of level `start` whose lower left tile is the upper right corner of what n turns make of it, and
 /// likewise each other tile the opposite corner of its own. Each is listed as lower left, lower right, upper
-/// left, upper right. `OpenChain` exactly where the chain isn't looped; else only memory can want.
+/// left, upper right. `OpenChain` exactly where the chain isn't looped; else memory alone can run out.
 pub fn seeds(alloc: Global, c: &Accepted, power: u32) -> Result<Vec<[u16; 4]>, SeedFault>
     requires some { 1 ≤ power }
     requires few { power ≤ 64 }

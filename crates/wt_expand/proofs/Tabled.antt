@@ -38,7 +38,7 @@ pub few : (p : Image) → length (piece_tiles p) ≤ 2
 few (Single a) = omega arith
 few (Double a b) = omega arith
 
--- both ends are written, and so many of them count
+-- both ends are written, and n of them count
 pub both_put : (row : List ℕ) (len a b n : ℕ) (p : Image) → len + 2 ≤ length row → a ≡ first_tile p → b ≡ last_tile p → n ≡ length (piece_tiles p)
     → take (len + n) (set (set row len a) (len + 1) b) ≡ take (length row) (take len row ++ piece_tiles p)
 both_put row len a b n p room ea eb en =

@@ -48,7 +48,7 @@ abbrev pub IsAdvanced : Direction → ℕ → ℕ → Type 0
 IsAdvanced Up before now = now ≡ before + 1
 IsAdvanced Down before now = now + 1 ≡ before
 
--- the last row in this direction, of so many
+-- the last row in this direction, of n
 abbrev pub IsLastRow : Direction → ℕ → ℕ → Type 0
 IsLastRow Up rows y = y + 1 ≡ rows
 IsLastRow Down rows y = y ≡ 0

@@ -18,7 +18,7 @@ use wt_step::RawLink;
 use wt_tile::Axis;
 
 /// A counter whose values are the rows below tile 0, by their numbers from the bottom. It has a digit for
-/// each level of a pick: for the steps before the loop, and then for so many turns of the loop. Its digits
+/// each level of a pick: for the steps before the loop, and then for n turns of the loop. Its digits
 /// lie in lent space, a block for each.
 #[derive(Drop)]
 pub struct Counter<'a> {

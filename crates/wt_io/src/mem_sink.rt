@@ -34,8 +34,8 @@ impl Model for MemSink {
 }
 
 impl MemSink {
-    /// A sink with room for so many bytes, which takes at most `piece` for each call. The calls whose numbers are in
-    /// `fail` fail. Its one refusal is want of memory for the room.
+    /// A sink with room for n bytes, which takes at most `piece` for each call. The calls whose numbers are in
+    /// `fail` fail. Its one refusal is that memory runs out.
     pub fn new(
         alloc: Global,
         room: usize,

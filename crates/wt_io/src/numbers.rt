@@ -47,7 +47,7 @@ fn with_digit(value: u64, digit: u64) -> Option<u64>
 
 /// The number that a token spells in decimal digits.
 ///
-/// `NotNumber` comes exactly where the token has another form, and `TooLarge` exactly where the value is 2^64 or
+/// `NotNumber` is answered exactly where the token has another form, and `TooLarge` exactly where the value is 2^64 or
 /// more.
 pub fn number(token: &[u8]) -> Result<u64, NumberFault>
     ensures { result ≡ in_u64 (spec.number token.now) }

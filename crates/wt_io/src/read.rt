@@ -17,12 +17,12 @@ pub enum ReadError {
     /// More bytes came than the limit allows.
     #[error("input too long")]
     TooLong,
-    /// Want of memory.
+    /// Out of memory.
     #[error("out of memory")]
     OutOfMemory,
 }
 
-/// So many bytes are asked for in one read.
+/// n bytes are asked for in one read.
 pub const PIECE: usize = 4096;
 
 /// All bytes of a source up to the end of input, if they are no more than `limit`.

@@ -7,7 +7,7 @@ abbrev pub left : Bool → List ℕ → List (List ℕ)
 left true line = tokens line
 left false line = []
 
--- a number held at the last value of u64
+-- a number saturating at the last value of u64
 abbrev pub held : Option ℕ → Option ℕ
 held None = None
 held (Some n) = Some (min n (2 ^ 64 - 1))

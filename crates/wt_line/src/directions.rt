@@ -8,7 +8,7 @@ use crate::faults::LineFault;
 use crate::tokens::{Rest, next_token};
 use wt_grid::{Axis, Side};
 
-/// An axis, `1` or `2`, and what is left of the line. `Wrong` comes exactly where the next token is neither.
+/// An axis, `1` or `2`, and what is left of the line. `Wrong` is answered exactly where the next token is neither.
 pub fn axis(rest: Rest<'_>) -> Result<(Axis, Rest<'_>), LineFault>
     ensures { ReadsTokens (λ x. (Ok x.0, tokens_left x.1)) result (spec.axis (tokens_left rest.entry)) }
 {
@@ -24,7 +24,7 @@ pub fn axis(rest: Rest<'_>) -> Result<(Axis, Rest<'_>), LineFault>
     Err(LineFault::Wrong)
 }
 
-/// A side, `after` or `before`, and what is left of the line. `Wrong` comes exactly where the next token is neither.
+/// A side, `after` or `before`, and what is left of the line. `Wrong` is answered exactly where the next token is neither.
 pub fn side(rest: Rest<'_>) -> Result<(Side, Rest<'_>), LineFault>
     ensures { ReadsTokens (λ x. (Ok x.0, tokens_left x.1)) result (spec.side (tokens_left rest.entry)) }
 {

@@ -74,18 +74,18 @@ impl What {
 /// What is wrong with a line, whatever its number.
 #[derive(Clone, Copy, Debug, PartialEq, Eq)]
 pub enum LineFault {
-    /// It has no right form.
+    /// It is malformed.
     Wrong,
     /// It has a right form, and this is the first limit that it passes, from left to right.
     Past(What),
-    /// Want of memory.
+    /// Out of memory.
     OutOfMemory,
 }
 
-/// What is wrong with a text: its first line that has no right form or passes a limit.
+/// What is wrong with a text: its first line that is malformed or passes a limit.
 #[derive(Clone, Copy, Debug, PartialEq, Eq)]
 pub enum TextFault {
-    /// The line of this number is no right next line.
+    /// The line of this number is malformed where it stands.
     Syntax {
         /// The number of the line, counted from 1.
         line: usize,
@@ -97,7 +97,7 @@ pub enum TextFault {
         /// The number of the line, counted from 1.
         line: usize,
     },
-    /// Want of memory.
+    /// Out of memory.
     OutOfMemory,
 }
 

@@ -14,7 +14,7 @@ use crate::limits::{MAX_RADIUS, MOST};
 use crate::tokens::{Rest, next_token};
 use wt_io::NumberFault;
 
-/// The number that a token spells, held at the last value of a `u64`, so that it may be compared with any limit.
+/// The number that a token spells, saturating at the last value of a `u64`, so that it may be compared with any limit.
 /// None where the token is no number of any size.
 pub fn number(token: &[u8]) -> Option<u64>
     ensures { result ≡ held (words.number token.now) }
@@ -28,7 +28,7 @@ pub fn number(token: &[u8]) -> Option<u64>
 
 /// A number with a limit, and what is left of the line: within it the number, past it the word of the limit.
 ///
-/// `Wrong` comes exactly where no token is left or the next one is no number.
+/// `Wrong` is answered exactly where no token is left or the next one is no number.
 pub fn number_to(
     most: u32,
     what: What,
@@ -53,7 +53,7 @@ pub fn number_to(
 
 /// A number that has no limit of its own, and what is left of the line: at most `MOST`, past it the word `number`.
 ///
-/// `Wrong` comes exactly where no token is left or the next one is no number.
+/// `Wrong` is answered exactly where no token is left or the next one is no number.
 pub fn small_number(rest: Rest<'_>) -> Result<(Result<u16, What>, Rest<'_>), LineFault>
     ensures fewer { IfOk result (λ x. room_left x.1 < room_left rest.entry) }
     ensures read { ReadsRest small result rest.entry }
@@ -67,7 +67,7 @@ pub fn small_number(rest: Rest<'_>) -> Result<(Result<u16, What>, Rest<'_>), Lin
 
 /// A radius, and what is left of the line: at most `MAX_RADIUS`, past it the word `radius`.
 ///
-/// `Wrong` comes exactly where no token is left or the next one is no number.
+/// `Wrong` is answered exactly where no token is left or the next one is no number.
 pub fn radius(rest: Rest<'_>) -> Result<(Result<u8, What>, Rest<'_>), LineFault>
     ensures within { IfOk result (λ x. IfOk x.0 (λ r. r ≤ MAX_RADIUS)) }
     ensures read { ReadsRest limits.radius result rest.entry }
@@ -82,7 +82,7 @@ pub fn radius(rest: Rest<'_>) -> Result<(Result<u8, What>, Rest<'_>), LineFault>
 /// A number of at least 1 with a limit, and what is left of the line: within it the number, past it the word of the
 /// limit.
 ///
-/// `Wrong` comes exactly where no token is left, or the next one is no number or is 0.
+/// `Wrong` is answered exactly where no token is left, or the next one is no number or is 0.
 pub fn number_from_one(
     most: u32,
     what: What,

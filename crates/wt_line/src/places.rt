@@ -28,7 +28,7 @@ impl<'a> Place<'a> {
 
 /// The next line, which a newline ends, and the place behind it.
 ///
-/// `Syntax` at the number of the place comes exactly where no such line is left: at the end of the text, and before a
+/// `Syntax` at the number of the place is answered exactly where no such line is left: at the end of the text, and before a
 /// last part without its newline.
 #[tactic(auto, using(wt_io::proofs::Cuts::first_of_lines, crate::proofs::Starts::no_line))]
 pub fn next_line(place: Place<'_>) -> Result<(&[u8], Place<'_>), TextFault>

@@ -57,7 +57,7 @@ pub fn next_token(rest: Rest<'_>) -> Option<(&[u8], Rest<'_>)>
     }
 }
 
-/// The tokens behind a word. `Wrong` comes exactly where the next token is not this word.
+/// The tokens behind a word. `Wrong` is answered exactly where the next token is not this word.
 pub fn word<'a>(word: &str, rest: Rest<'a>) -> Result<Rest<'a>, LineFault>
     ensures { ReadsTokens tokens_left result (after word.now (tokens_left rest.entry)) }
 {
@@ -71,7 +71,7 @@ pub fn word<'a>(word: &str, rest: Rest<'a>) -> Result<Rest<'a>, LineFault>
     }
 }
 
-/// Nothing is left of a line. `Wrong` comes exactly where a token is.
+/// Nothing is left of a line. `Wrong` is answered exactly where a token is.
 pub fn line_end(rest: Rest<'_>) -> Result<(), LineFault>
     ensures { MatchResult result (λ _. tokens_left rest.entry ≡ []) (λ e. IsWrong e (tokens_left rest.entry)) }
 {

@@ -79,7 +79,7 @@ module _ (ts : List Tile) (radius : ℕ) (one two : ℕ → ℕ → Bool) (budge
       let c = nodes_only (nat_lt 1048576 (nodes_in ts radius One one + nodes_in ts radius Two two)) b.1 in
       grind (arith, nat_tests, c)
 
--- a reason for a refusal, or want of memory
+-- a reason for a refusal, or that memory ran out
 pub or_memory : (e : DeriveEnd) (o p : Option DeriveEnd) → (o ≡ Some e → p ≡ Some e) → (e ≡ OutOfMemory) ⊎ (o ≡ Some e) → (e ≡ OutOfMemory) ⊎ (p ≡ Some e)
 or_memory e o p f (inl m) = inl m
 or_memory e o p f (inr s) = inr (f s)

@@ -160,11 +160,11 @@ derived p = record {
 abbrev pub derive_fault : Plan → ℕ → Option DeriveEnd
 derive_fault p budget = or_else (images_fault p.fine.tiles p.axis (images_of p)) (trees_fault p.fine.tiles p.radius p.one p.two budget)
 
--- a refusal tells this reason, or want of memory
+-- a refusal tells this reason, or that memory ran out
 abbrev pub IsReason : Option DeriveEnd → DeriveEnd → Type 0
 IsReason reason e = (e ≡ OutOfMemory) ⊎ (reason ≡ Some e)
 
 -- What a derivation may answer: the derived step, where there is no reason against it; else the first
--- reason, or want of memory.
+-- reason, or that memory ran out.
 abbrev pub MayAnswerStep : Plan → ℕ → Result RawStep DeriveEnd → Type 0
 MayAnswerStep p budget result = MatchResult result (λ step. (step ≡ derived p) × (derive_fault p budget ≡ None)) (λ e. IsReason (derive_fault p budget) e)

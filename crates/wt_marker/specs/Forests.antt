@@ -4,7 +4,7 @@ use Rattle.wt_refute.specs.declared.tree.Refuted.{Refuted}
 use Rattle.wt_refute.specs.declared.limits.TheConstants.{MAX_NODES}
 use Rattle.wt_marker.specs.declared.forest.Forest.{Forest}
 
--- so many nodes and so many more, of which at most one beyond the limit is counted
+-- n nodes and m more, of which at most one beyond the limit is counted
 abbrev pub with_more : ℕ → ℕ → ℕ
 with_more nodes more = min (nodes + more) (MAX_NODES + 1)
 

@@ -184,10 +184,9 @@ fn classes_by(
 }
 
 /// The classes of markers of a set, for the tables of dominoes of axis 1 and axis 2. A class is all tiles
-/// that
-/// dominoes of the other axis join. It is kept where no domino of the axis is inside, and one goes from a
-/// tile outside to one of the class. Classes are listed by their least tile, each ascending. Fails only for
-/// want of memory.
+/// that dominoes of the other axis join. It is kept where no domino of the axis is inside, and one goes from a
+/// tile outside to one of the class. Classes are listed by their least tile, each ascending. Fails only where
+/// memory runs out.
 pub fn marker_classes(
     alloc: Global,
     set: SetRef<'_>,

@@ -34,7 +34,7 @@ fn edges_of(tiles: &[Tile], axis: Axis, image: Image) -> Fused
     }
 }
 
-/// The number of an edge. Fails only for want of memory, since there are fewer than 512 others.
+/// The number of an edge. Fails only where memory runs out, since there are fewer than 512 others.
 fn number(colours: &mut Colours, edge: Edge) -> Result<u16, AllocError>
     requires few { length colours.old < 512 }
     ensures number { IfOk result (λ n. n ≡ place edge colours.old) }

@@ -5,7 +5,7 @@ ghost use Rattle.wt_marker.specs.declared.end.DeriveEnd.TheVariants as spec;
 use std::alloc::AllocError;
 use wt_tile::Axis;
 
-/// Why no step is derived. The first that holds, in this order; want of memory may come before each.
+/// Why no step is derived. The first that holds, in this order; memory may run out before each.
 #[derive(Clone, Copy, Debug, PartialEq, Eq)]
 pub enum DeriveEnd {
     /// No image is demanded.

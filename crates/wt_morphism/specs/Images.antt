@@ -60,7 +60,7 @@ apply_fault m p =
     or_else (option_map (λ at. Uneven at.0 at.1) (uneven m p))
     (if is_too_large (image m p) then Some TooLarge else None)
 
--- the refusal that comes, where there is a cause, and else want of memory
+-- the refusal that comes, where there is a cause, and else that memory ran out
 abbrev pub IsRefusal : Option ApplyFault → ApplyFault → Type 0
 IsRefusal None e = e ≡ OutOfMemory
 IsRefusal (Some cause) e = e ≡ cause

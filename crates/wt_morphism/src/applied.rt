@@ -13,7 +13,7 @@ use wt_pattern::Pattern;
 
 /// The image of a pattern: the pieces of each cell's image stand along the axis in order. `Uneven` names the
 /// first cell in reading order whose image is longer or shorter than that of the first cell of its line;
-/// `TooLarge` comes exactly where all are even and the image is over 4096 wide or high. A number past the
+/// `TooLarge` is answered exactly where all are even and the image is over 4096 wide or high. A number past the
 /// table counts as one that stands for tile 0.
 pub fn apply(alloc: Global, m: &Morphism, p: &Pattern) -> Result<Pattern, ApplyFault>
     ensures image { IfOk result (λ q. q ≡ image m.now p.now) }

@@ -13,7 +13,7 @@ use Rattle.wt_pattern.specs.TileRows.{no_state}
 use Rattle.wt_line.specs.Limits.{small}
 use Rattle.wt_pattern.specs.PatternRows.{times, cells_form, cells_rows, cells_spelling, from_bottom}
 
--- so many numbers, each within its limit
+-- n numbers, each within its limit
 abbrev pub CellsFit : ℕ → List ℕ → Type 0
 CellsFit width ns = (length ns ≡ width) × AllFit (λ n. n ≤ 65535) ns
 

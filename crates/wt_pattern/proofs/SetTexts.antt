@@ -43,7 +43,7 @@ row_law = seen_part row_edges row_names (λ a fits. refl) (line_part row_line)
 pub rows_law : {W : Type 0} (n : ℕ) → IsPart {W = W} (many_parts (λ s. row_part) no_state 0 n) (flat_map one_row) (λ rows. (length rows ≡ n) × FitInTurn (λ s. RowFit) no_state 0 rows)
 rows_law n = many_part no_state (λ s. row_law) 0 n
 
--- so many rows as a list of tiles
+-- n rows as a list of tiles
 abbrev pub TilesFit : ℕ → TileList → Type 0
 TilesFit n list = ((length (list_rows list) ≡ n) × FitInTurn (λ s. RowFit) no_state 0 (list_rows list)) × (rows_list (list_rows list) ≡ list)
 

@@ -25,7 +25,7 @@ Rows = Result (List (Edges (List ℕ)) × (ℕ × List Line)) (words.TextFault W
 abbrev pub listed : List Tile → List (List ℕ) → List (List ℕ) → Rows → Result (TileList × (ℕ × List Line)) (words.TextFault What)
 listed front seen1 seen2 read = read then λ x. Ok (list_on front seen1 seen2 x.0, x.1)
 
--- so many rows
+-- n rows
 abbrev pub rows_left : ℕ → ℕ × List Line → Rows
 rows_left n p = many_parts (λ s. row_part) no_state 0 n p
 

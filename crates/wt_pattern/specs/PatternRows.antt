@@ -12,16 +12,16 @@ use Rattle.wt_grid.specs.Grid.{Grid}
 use Rattle.wt_grid.specs.declared.limits.TheConstants.{MAX_SIDE}
 use Rattle.wt_pattern.specs.TileRows.{no_state}
 
--- so many values one after the other
+-- n values one after the other
 abbrev pub times : {W A : Type 0} → (List (List ℕ) → Option (Result A W × List (List ℕ))) → ℕ → List (List ℕ) → Option (Result (List A) W × List (List ℕ))
 times read zero ts = Some (Ok [], ts)
 times read (suc n) ts = read ts >>= λ a. times read n a.1 >>= λ x. Some (value_in_front a.0 x.0, x.1)
 
--- a row of so many numbers
+-- a row of n numbers
 abbrev pub cells_form : ℕ → List (List ℕ) → Result (List ℕ) (LineFault What)
 cells_form width = whole (times small width)
 
--- so many rows of so many numbers
+-- h rows of w numbers
 abbrev pub cells_rows : ℕ → ℕ → ℕ × List Line → Result (List (List ℕ) × (ℕ × List Line)) (TextFault What)
 cells_rows width height = many_parts (λ s. one_line (cells_form width)) no_state 0 height
 

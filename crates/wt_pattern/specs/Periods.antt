@@ -16,7 +16,7 @@ IsPeriodAlong axis g d e = (i j k l : ℕ) → i < along axis g → j < across a
 abbrev pub IsPeriod : Grid → ℤ → ℤ → Type 0
 IsPeriod g dx dy = IsPeriodAlong One g dx dy
 
--- a component of a vector, as so many steps forward or back
+-- a component of a vector, as n steps forward or back
 abbrev pub shift_of : ℤ → Shift
 shift_of (pos k) = Forward k
 shift_of (negsuc k) = Back (suc k)

@@ -40,7 +40,7 @@ no_state s a = s
 abbrev pub row_part : {W : Type 0} → ℕ × List Line → Result (Edges (List ℕ) × (ℕ × List Line)) (TextFault W)
 row_part = seen_as row_edges (one_line row_form)
 
--- so many rows as a list of tiles
+-- n rows as a list of tiles
 abbrev pub tile_rows : {W : Type 0} → ℕ → ℕ × List Line → Result (TileList × (ℕ × List Line)) (TextFault W)
 tile_rows count = seen_as rows_list (many_parts (λ s. row_part) no_state 0 count)
 

@@ -220,9 +220,9 @@ fn draw_boxes(alloc: Global, list: &TileList, p: &Pattern) -> Result<Vec<u8>, Al
 ///
 /// With f the length of the set's longest name, a box has three lines of 2f + 5 bytes, and a bar stands between
 /// each two
-/// boxes of a row. A number past the set is drawn as a tile whose edges all have colour 0. `NoSet` comes exactly
+/// boxes of a row. A number past the set is drawn as a tile whose edges all have colour 0. `NoSet` is answered exactly
 /// where
-/// boxes are asked for without a set; else only memory can want.
+/// boxes are asked for without a set; else memory alone can run out.
 pub fn draw(
     alloc: Global,
     set: Option<SetRef>,

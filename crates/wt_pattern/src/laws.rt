@@ -82,7 +82,7 @@ pub fn window_sizes()
         → (g.width ≡ (window_size axis r).0) × (g.height ≡ (window_size axis r).1) }
 {}
 
-/// A text is read as a list of tiles exactly where it is the text of that list, which has so many tiles and whose
+/// A text is read as a list of tiles exactly where it is the text of that list, which has n tiles and whose
 /// colours are numbered by first coming.
 pub fn set_texts_are_exact()
     ensures found { (bytes : List ℕ) (n : ℕ) (list : TileList) → whole_text {W = What} (tile_rows n) (lines bytes) ≡ Ok list → IsSetText n list bytes }

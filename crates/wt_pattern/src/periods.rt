@@ -7,7 +7,7 @@ ghost use Rattle.wt_pattern.specs.Periods as spec;
 use crate::Pattern;
 use wt_lane::first_difference;
 
-/// So many steps along a row or a column, forward or back.
+/// n steps along a row or a column, forward or back.
 #[derive(Clone, Copy)]
 enum Shift {
     Forward(usize),

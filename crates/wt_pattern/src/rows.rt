@@ -135,7 +135,7 @@ fn numbered(
     })
 }
 
-/// So many rows of four colour names as a list of tiles, and the place behind them. The names are the right, the
+/// n rows of four colour names as a list of tiles, and the place behind them. The names are the right, the
 /// top, the left and the bottom one; the colours of each axis are numbered by first coming. So such a list is a tile
 /// set, but that it may be empty or repeat a tile.
 pub fn tiles_at(

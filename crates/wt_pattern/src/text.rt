@@ -19,7 +19,7 @@ use wt_line::{
 };
 use wt_tile::TileList;
 
-/// A list of so many tiles, from a text that is its rows and no more.
+/// A list of n tiles, from a text that is its rows and no more.
 #[tactic(auto, unfolding(wt_text::specs::Readers::whole_text))]
 pub fn read_set(alloc: Global, bytes: &[u8], tiles: usize) -> Result<TileList, TextFault>
     requires { tiles ≤ MAX_TILES }

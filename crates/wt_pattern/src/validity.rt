@@ -22,7 +22,7 @@ pub fn tiles_fault(set: SetRef, p: &Pattern) -> Option<(usize, usize)>
     None
 }
 
-/// The first cell of row y whose number is none of so many tiles.
+/// The first cell of row y whose number is none of n tiles.
 #[tactic(auto, using(wt_grid::proofs::First::first_more))]
 fn stranger_in(count: usize, p: &Pattern, y: usize) -> Option<(usize, usize)>
     requires { y < p.now.height }

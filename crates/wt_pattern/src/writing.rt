@@ -23,7 +23,7 @@ pub(crate) fn name_of(names: &[Name], number: u16) -> &[u8]
     }
 }
 
-// Appends the row of a tile's four names. On want of memory a part of the row may stand behind what was there.
+// Appends the row of a tile's four names. Where memory runs out, a part of the row may stand behind what was there.
 fn put_tile(
     out: &mut Vec<u8>,
     names1: &[Name],
@@ -41,7 +41,7 @@ fn put_tile(
     Ok(())
 }
 
-/// Appends the rows of a list of tiles. On want of memory nothing is appended.
+/// Appends the rows of a list of tiles. Where memory runs out, nothing is appended.
 pub fn push_tiles(out: &mut Vec<u8>, list: &TileList) -> Result<(), AllocError>
     ensures ok { OnOk result (out.new.items ≡ out.old.items ++ bytes_of (rows_spelling list.now)) }
     ensures err { OnErr result (out.new.items ≡ out.old.items) }
@@ -67,7 +67,7 @@ pub fn write_set(alloc: Global, set: SetRef<'_>) -> Result<Vec<u8>, AllocError>
     Ok(text)
 }
 
-/// Appends the rows of a pattern, the top one first. On want of memory nothing is appended.
+/// Appends the rows of a pattern, the top one first. Where memory runs out, nothing is appended.
 pub fn push_pattern(out: &mut Vec<u8>, p: &Pattern) -> Result<(), AllocError>
     ensures ok { OnOk result (out.new.items ≡ out.old.items ++ bytes_of (pattern_lines p.now)) }
     ensures err { OnErr result (out.new.items ≡ out.old.items) }
@@ -80,7 +80,7 @@ pub fn push_pattern(out: &mut Vec<u8>, p: &Pattern) -> Result<(), AllocError>
     done
 }
 
-// On want of memory some of the rows may stand behind what was there.
+// Where memory runs out, some of the rows may stand behind what was there.
 fn put_rows(out: &mut Vec<u8>, p: &Pattern) -> Result<(), AllocError>
     ensures ok { OnOk result (out.new.items ≡ out.old.items ++ bytes_of (pattern_lines p.now)) }
     ensures err { OnErr result (take (length out.old.items) out.new.items ≡ out.old.items) }

@@ -111,7 +111,7 @@ columns_of ts g p low = record {
 
 -- ---- dead lengths
 
--- no cylinder of so many cells has lines of this length
+-- no cylinder of n cells has lines of this length
 abbrev pub HasNoCylinder : List Tile → Axis → ℕ → ℕ → Type 0
 HasNoCylinder ts axis w n = (g : List ℕ) → IsCylinder ts axis w n g → ⊥
 

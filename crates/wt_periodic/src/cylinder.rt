@@ -125,7 +125,7 @@ fn stack(
     Some(left)
 }
 
-/// Whether so many steps show that no wrapping rectangle has this length along an axis.
+/// Whether n steps show that no wrapping rectangle has this length along an axis.
 pub fn is_dead(
     along: &Pairs<'_>,
     across: &Pairs<'_>,

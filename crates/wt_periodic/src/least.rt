@@ -201,7 +201,7 @@ fn mark(
     }
 }
 
-/// Looks for the least wrapping rectangle of so many cells, the smallest widths first.
+/// Looks for the least wrapping rectangle of n cells, the smallest widths first.
 fn of_area(
     rounds: &Rounds<'_>,
     limit: usize,

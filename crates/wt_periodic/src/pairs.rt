@@ -39,7 +39,7 @@ pub struct Pairs<'a> {
 }
 
 impl<'a> Pairs<'a> {
-    /// The pairs of a set along an axis. Fails only for want of memory.
+    /// The pairs of a set along an axis. Fails only where memory runs out.
     #[tactic(auto, using(wt_tile::proofs::Sizes::few_tiles))]
     pub fn new(alloc: Global, set: SetRef<'a>, axis: Axis) -> Result<Pairs<'a>, AllocError>
         ensures { IfOk result (λ made. (made.tiles.now ≡ set.entry.list.now.tiles) × (made.axis ≡ axis)) }

@@ -24,7 +24,7 @@ pub struct Rounds<'a> {
 }
 
 impl<'a> Rounds<'a> {
-    /// The tables of a list of at most 256 tiles. Fails only for want of memory.
+    /// The tables of a list of at most 256 tiles. Fails only where memory runs out.
     pub fn new(alloc: Global, tiles: &'a [Tile]) -> Result<Rounds<'a>, AllocError>
         requires { length tiles.now ≤ 256 }
         ensures { IfOk result (λ made. made.tables.tiles.now ≡ tiles.now) }

@@ -49,7 +49,7 @@ pub fn contains(r: &Region, z: &Point) -> bool
     all_hold(r.planes.as_slice(), z)
 }
 
-/// The part of the region in a half-plane, which is put last. Fails only for want of memory, and gives the region back.
+/// The part of the region in a half-plane, which is put last. Fails only where memory runs out, and gives the region back.
 #[tactic(auto, using(crate::proofs::Inside::clipped))]
 pub fn clip(r: Region, h: HalfPlane) -> Result<Region, (Region, AllocError)>
     ensures exact { MatchResult result (λ part. part.planes ≡ r.planes ++ (h ∷ [])) (λ e. e.0 ≡ r) }

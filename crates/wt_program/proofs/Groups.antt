@@ -57,7 +57,7 @@ front_put a k n xs ys le few =
     take-add a n (put_mid a k xs ys) ∙ ap (λ (p : List ℕ). p ++ take n (drop a (put_mid a k xs ys))) (take_at (take a xs) rest a long)
     ∙ ap (λ (p : List ℕ). take a xs ++ take n p) (drop_at (take a xs) rest a long) ∙ ap (λ (p : List ℕ). take a xs ++ p) (take-append-le n ys (post_of a k xs) few)
 
--- a group was copied, and so many of its bytes count
+-- a group was copied, and n of its bytes count
 pub copied : (bytes lens text now : List ℕ) (len k four n t number : ℕ) → t ≡ number → t < 256 → length bytes ≡ 1024 → IsNumeral bytes lens t → n ≡ get_or lens t 0 → len + 6 ≤ length text → four ≡ 4
     → now ≡ take four (drop (4 * t) bytes) → take (len + n) (put_mid len k text now) ≡ take len text ++ 32 ∷ decimal number
 copied bytes lens text now len k four n t number e lt size is count room fours same =

@@ -26,7 +26,7 @@ none_text limit = codes "none " ++ (decimal limit ++ codes "\n")
 abbrev pub spent_text : ℕ → ℕ → List ℕ
 spent_text w h = codes "spent size " ++ (decimal w ++ (codes " " ++ (decimal h ++ codes "\n")))
 
--- what is replied to the answer of a search; want of memory has no reply
+-- what is replied to the answer of a search; running out of memory has no reply
 abbrev pub IsToldWrap : ℕ → Result (Option Grid) WrapEnd → Reply → Type 0
 IsToldWrap limit (Ok (Some g)) reply = reply ≡ Answered (wrap_text g)
 IsToldWrap limit (Ok None) reply = reply ≡ Answered (none_text limit)

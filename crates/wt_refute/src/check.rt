@@ -19,7 +19,7 @@ use wt_mask::{Sides, next_bit};
 use wt_pattern::{MAX_CELLS, window_shape};
 use wt_tile::{Axis, SetRef, Tile};
 
-/// The first wrong node of a tree in preorder, counted from 0 at the root, held at the last value of usize.
+/// The first wrong node of a tree in preorder, counted from 0 at the root, saturating at the last value of usize.
 #[derive(Clone, Copy, Debug, PartialEq, Eq)]
 pub struct TreeFault {
     /// The number of the node in preorder, from 0.

@@ -76,7 +76,7 @@ fn renew(
     counts[cell] = count_ones(&fit_mask(sides, shape, cells, cell));
 }
 
-/// Counts anew what fits the cell so many numbers before a cell.
+/// Counts anew what fits the cell n numbers before a cell.
 fn renew_before(
     sides: &Sides<'_>,
     shape: (usize, usize),

@@ -72,7 +72,7 @@ module _ (l : RawLink) (ls : List RawLink) (list : List ℕ) (linked : AreLinked
         let t = twice (width s) (length (fine_of l).tiles) (grow_high l ls list e linked ren grows) g.height (λ k. at Two g k 0) (λ k lk. p.1 0 k (omega arith) lk) in
         omega (arith, a, b, c, t)
 
--- After so many turns as let each tile grow, each side of a valid pattern is at least twice as long.
+-- After as many turns as let each tile grow, each side of a valid pattern is at least twice as long.
 pub doubled_sides : (l : RawLink) (ls : List RawLink) → AreLinked (fine_of l) (l ∷ ls) → (list : List ℕ) (e : ℕ) → IsGoodLoop (l ∷ ls) list e → (g : Grid) → IsPattern (fine_of l).tiles g
     → IsTwiceSized (fine_of l).tiles g (turned_times (l ∷ ls) list e g)
 doubled_sides l ls linked list e good g p = record {

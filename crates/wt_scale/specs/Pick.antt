@@ -5,7 +5,7 @@ use Rattle.wt_grid.specs.Parts.{part}
 use Rattle.wt_step.specs.declared.raw.RawLink.{RawLink}
 use Rattle.wt_chain.specs.Turns.{image_through, turned_times, single}
 
--- the first of k, k + 1 and so on whose power of two is at least n, in so many tries
+-- the first of k, k + 1 and so on whose power of two is at least n, in n tries
 abbrev pub power_from : ℕ → ℕ → ℕ → ℕ
 power_from n k zero = k
 power_from n k (suc tries) = if nat_le n (2 ^ k) then k else power_from n (k + 1) tries

@@ -8,7 +8,7 @@ abbrev pub size_from : List RawLink → ℕ → ℕ
 size_from [] side = side
 size_from (link ∷ links) side = side_below link (size_from links side)
 
--- the same behind so many turns of a loop
+-- the same after n turns of a loop
 abbrev pub turns_size : List RawLink → ℕ → ℕ → ℕ
 turns_size loop zero side = side
 turns_size loop (suc n) side = turns_size loop n (size_from loop side)

@@ -46,7 +46,7 @@ fn size_from(links: &[RawLink], side: u128) -> Option<u128>
     side_below(link, size_from(after, side)?)
 }
 
-/// The same for the pattern behind so many turns of a loop.
+/// The same for the pattern after n turns of a loop.
 #[tactic(auto, using(crate::proofs::Standing::larger_turns))]
 fn turns_size(links: &[RawLink], turns: u64, side: u128) -> Option<u128>
     ensures { SomeIff result (sizes.turns_size links.now turns side < 2 ^ 128) (sizes.turns_size links.now turns side) }
@@ -66,7 +66,7 @@ fn digits(m: u64) -> u32
     if m == 0 { 0 } else { m.ilog2() + 1 }
 }
 
-/// How many turns outgrow numbers of so many digits.
+/// How many turns outgrow numbers of n digits.
 fn turns_for(expansion: u32, digits: u32) -> u64
     ensures { result ≡ expansion * digits }
 {
@@ -93,7 +93,7 @@ fn size_up_to(steps: &[RawLink], start: u16, expansion: u32, m: u64) -> Option<u
 }
 
 /// How large a pattern over the first set of a looped chain has to be, in width and in height, so that the
-/// vector (dx, dy) is no period of it: `sizes_exclude_periods` says so. `OpenChain` comes exactly where the
+/// vector (dx, dy) is no period of it: `sizes_exclude_periods` says so. `OpenChain` is answered exactly where the
 /// chain isn't looped, else `ZeroVector` exactly where dx and dy are 0, else `TooLarge` exactly where the size
 /// is 2^128 or more. Takes no memory.
 pub fn size_for(c: &Accepted, dx: i64, dy: i64) -> Result<u128, SizeFault>

@@ -7,7 +7,7 @@ use Rattle.wt_script.specs.declared.word.Command.{Command}
 use Rattle.wt_script.specs.Script.{is_skipped, piece_at, in_front, pieces, commands_from}
 use Rattle.wt_script.proofs.Takes.{piece_takes}
 
--- so many pieces are enough, and more of them give no more
+-- n pieces are enough, and more of them give no more
 enough : (most m n : ℕ) (ls : List Line) → length ls ≤ most → length ls ≤ m → pieces most n ls ≡ pieces m n ls
 enough zero zero n [] a b = refl
 enough zero (suc m) n [] a b = refl

@@ -30,7 +30,7 @@ abbrev pub in_front : Option Command → List Command → List Command
 in_front None cs = cs
 in_front (Some c) cs = c ∷ cs
 
--- So many pieces at most, one after the other to the end of the text.
+-- n pieces at most, one after the other to the end of the text.
 abbrev pub pieces : ℕ → ℕ → List Line → Result (List Command) (TextFault What)
 pieces most n [] = Ok []
 pieces zero n (l ∷ ls) = Err (syntax_at n)

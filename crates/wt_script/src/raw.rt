@@ -7,7 +7,7 @@ use std::alloc::Global;
 use wt_line::{Place, TextFault, next_line};
 use wt_seq::Seq;
 
-/// The bytes of so many lines with their newlines.
+/// The bytes of n lines with their newlines.
 #[tactic(auto, using(crate::proofs::Raws::begins, crate::proofs::Raws::goes_on, crate::proofs::Raws::ends, crate::proofs::Raws::is_done), unfolding(crate::specs::Raw::raw_lines))]
 pub fn raw_at(
     alloc: Global,

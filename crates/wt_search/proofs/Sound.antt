@@ -80,7 +80,7 @@ begins_on : (set : TileList) (links : List RawLink) (step : RawStep) → BeginsW
 begins_on set [] step h e = e
 begins_on set (x ∷ xs) step h e = h
 
--- so many steps behind a set, all of them good and slim
+-- n steps behind a set, all of them good and slim
 record AreSound (set : TileList) (level : ℕ) (links : List RawLink) : Type 0 where
   good : set_fault (last_set set links) ≡ None
   run : (links ≡ []) ⊎ IsOpen links (version_of links)

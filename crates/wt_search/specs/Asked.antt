@@ -91,7 +91,7 @@ IsSpent ts radius budget level e =
 abbrev pub HasNoMatches : List Tile → Type 0
 HasNoMatches ts = HasNoMatch ts One × HasNoMatch ts Two
 
--- the answer is that a window of the level is spent, or want of memory
+-- the answer is that a window of the level is spent, or that memory ran out
 abbrev pub IsGivenUp : {A : Type 0} → List Tile → ℕ → ℕ → ℕ → Result A SearchEnd → Type 0
 IsGivenUp ts radius budget level result = MatchResult result (λ _. ⊥) (λ e. (e ≡ ends.OutOfMemory) ⊎ IsSpent ts radius budget level e)
 

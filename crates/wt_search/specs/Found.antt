@@ -20,7 +20,7 @@ use Rattle.wt_search.specs.declared.end.SearchEnd.TheVariants.{TooManyNodes, Not
 use Rattle.wt_search.specs.declared.limits.TheConstants.{MAX_NODES}
 use Rattle.wt_search.specs.Asked.{Asked, step_at, IsSpent, EndsAtZero}
 
--- so many nodes, where they are within the limit
+-- n nodes, where they are within the limit
 abbrev pub limited : ℕ → Option ℕ
 limited nodes = if nat_lt MAX_NODES nodes then None else Some nodes
 
@@ -53,7 +53,7 @@ closed_by links m (Some expansion) = Ok (record { version = version_of links; st
 abbrev pub closed : List RawLink → ℕ × List ℕ → Result RawChain SearchEnd
 closed links m = closed_by links m (least_expansion (drop m.0 links) m.1 (first_count (drop m.0 links)))
 
--- A search has come so far: it goes on with these steps, whose trees have so many nodes, or it is over.
+-- A search has come so far: it goes on with these steps, whose trees have n nodes, or it is over.
 pub data Progress : Type 0 where
   going : List RawLink → ℕ → Progress
   over : Result RawChain SearchEnd → Progress
@@ -78,7 +78,7 @@ abbrev pub next : Asked → TileList → ℕ → Progress → Progress
 next s set level (going links nodes) = with_step level links nodes (step_at s level (last_set set links))
 next s set level (over end) = over end
 
--- after so many levels
+-- after n levels
 abbrev pub progress : Asked → TileList → ℕ → Progress
 progress s set zero = going [] 0
 progress s set (suc level) = next s set level (progress s set level)
@@ -88,7 +88,7 @@ abbrev pub outcome : Progress → Result RawChain SearchEnd
 outcome (going links nodes) = Err Levels
 outcome (over end) = end
 
--- The chain that is found within so many levels, or why none is.
+-- The chain that is found within n levels, or why none is.
 abbrev pub found : Asked → TileList → ℕ → Result RawChain SearchEnd
 found s set levels = outcome (progress s set levels)
 
@@ -101,7 +101,7 @@ SpentAfter s set level (over end) e = ⊥
 abbrev pub IsSpentBelow : Asked → TileList → ℕ → SearchEnd → Type 0
 IsSpentBelow s set levels e = (level : ℕ) × (level < levels) × SpentAfter s set level (progress s set level) e
 
--- A search may end so: for want of memory; at a spent window; else as is said above.
+-- A search may end so: out of memory; at a spent window; else as is said above.
 abbrev pub MayEnd : Asked → TileList → ℕ → SearchEnd → Type 0
 MayEnd s set levels e = (e ≡ OutOfMemory) ⊎ IsSpentBelow s set levels e ⊎ (found s set levels ≡ Err e)
 

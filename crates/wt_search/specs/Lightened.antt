@@ -32,7 +32,7 @@ abbrev pub OrLater : Type 0 → Result ℕ LightenEnd → (ℕ → Type 0) → T
 OrLater now (Ok n) later = now ⊎ later n
 OrLater now (Err e) later = now
 
--- An end is want of memory, or that a window is given up where it may be, or else the one that is met.
+-- An end is that memory ran out, or that a window is given up where it may be, or else the one that is met.
 abbrev pub MayStop : Type 0 → Result ℕ LightenEnd → LightenEnd → Type 0
 MayStop given_up met e = (e ≡ OutOfMemory) ⊎ given_up ⊎ (met ≡ Err e)
 
@@ -42,7 +42,7 @@ MayStop given_up met e = (e ≡ OutOfMemory) ⊎ given_up ⊎ (met ≡ Err e)
 abbrev pub spent : Round → ℕ × ℕ → LightenEnd
 spent t q = Spent t.step t.radius t.axis q.0 q.1
 
--- so many nodes, where they are within the limit
+-- n nodes, where they are within the limit
 abbrev pub counted : ℕ → Option ℕ → Result ℕ LightenEnd
 counted step None = Err (TooManyNodes step)
 counted step (Some nodes) = Ok nodes

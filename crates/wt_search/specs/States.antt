@@ -15,7 +15,7 @@ abbrev pub state_of : Progress → spec.Progress
 state_of (code.Going chain nodes) = going chain nodes
 state_of (code.Found chain) = over (Ok chain)
 
--- where the search goes on, it has made so many steps, whose trees keep the limit
+-- where the search goes on, it has made n steps, whose trees keep the limit
 abbrev pub HasComeTo : ℕ → Progress → Type 0
 HasComeTo level (code.Going chain nodes) = (length chain ≡ level) × (nodes ≤ MAX_NODES)
 HasComeTo level (code.Found chain) = Unit {0}

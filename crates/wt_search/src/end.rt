@@ -3,7 +3,7 @@ use wt_tile::Axis;
 
 /// Why a search finds no chain: the refusal at the first level where one holds. At one level they come in this
 /// order: a spent window, `NoMarker`, `EmptySet`, `TooManyTiles`, `Repeated`, a spent tree, `TooManyNodes`,
-/// `NotGrowing`, `Levels`. Want of memory may come before each.
+/// `NotGrowing`, `Levels`. Memory may run out before each.
 #[derive(Clone, Copy, Debug, PartialEq, Eq)]
 pub enum SearchEnd {
     /// At this level the window of these two tiles has more trials than the budget; or, where each window of the

@@ -49,7 +49,7 @@ fn more_nodes(nodes: usize, refuted: &[Refuted]) -> Option<usize>
     Some(sum)
 }
 
-/// The chain with one step more, which takes apart its last set. Fails only for want of memory.
+/// The chain with one step more, which takes apart its last set. Fails only where memory runs out.
 fn pushed(alloc: Global, chain: Option<Chain>, step: Step) -> Result<Chain, AllocError>
     requires { chains.push_fault (links_of chain) (Marker step) ≡ None }
     ensures { IfOk result (λ longer. longer ≡ links_of chain ++ Marker step ∷ []) }
@@ -115,7 +115,7 @@ fn closed(chain: Chain, start: u16, renaming: Vec<u16>) -> Result<Accepted, Sear
     }
 }
 
-/// How far a search has come: it goes on with these steps, whose trees have so many nodes, or it has found a chain.
+/// How far a search has come: it goes on with these steps, whose trees have n nodes, or it has found a chain.
 #[derive(Drop)]
 pub enum Progress {
     Going { chain: Chain, nodes: usize },

@@ -33,7 +33,7 @@ pub fn found_chains_are_within_limits()
 
 /// Where no window of two matching tiles of a level that is searched has more trials than the budget, and no
 /// standard tree of an empty one more nodes, a search doesn't end as spent. So it answers as is said by `found`, or
-/// for want of memory.
+/// that memory ran out.
 pub fn enough_budgets()
     ensures { (s : Asked) (set : TileList) (levels : ℕ) (e : SearchEnd) → IsEnough s set levels → MayEnd s set levels e → IsNotSpent e }
 {}

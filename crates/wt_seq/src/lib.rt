@@ -44,7 +44,7 @@ impl<T> Seq<T> {
 }
 
 impl<T: Copy> Seq<T> {
-    /// An equal list. Fails only for want of memory.
+    /// An equal list. Fails only where memory runs out.
     pub fn copy(&self, alloc: Global) -> Result<Self, AllocError>
         ensures { IfOk result (λ copied. copied ≡ self.now) }
     {

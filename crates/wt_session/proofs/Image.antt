@@ -15,7 +15,7 @@ use Rattle.wt_expand.specs.Turn.{turned_tile, sides_fault, loop_turn_fault, end_
 use Rattle.wt_session.specs.Replies.{Reply, says, limit, no_tile, open_chain}
 use Rattle.wt_session.specs.Image.{image_text, image_in, image_by}
 
--- the reply to a fault; want of memory is none that a chain has
+-- the reply to a fault; running out of memory is none that a chain has
 abbrev pub refusal : ℕ → TurnFault → Reply
 refusal t OpenChain = open_chain
 refusal t NoTile = no_tile t

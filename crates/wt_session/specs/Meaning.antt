@@ -62,7 +62,7 @@ pub data Outcome : Type 0 where
   -- the status and the line of a refusal
   ends : ℕ → List ℕ → Outcome
 
--- an answer behind so many bytes
+-- an answer behind n bytes
 abbrev pub within_text : ℕ → Names → List ℕ → Outcome
 within_text printed names text = if nat_lt MAX_TEXT (printed + length text) then ends 5 (codes "limit output\n") else goes_on names text
 
@@ -72,6 +72,6 @@ settled names printed (says text) = within_text printed names text
 settled names printed (binds n v text) = if is_crowded n names then ends 5 (codes "limit names\n") else within_text printed (bind n v names) text
 settled names printed (stops status line) = ends status line
 
--- the meaning of a command, where so many bytes were printed before
+-- the meaning of a command, where n bytes were printed before
 abbrev pub IsMeaning : Names → ℕ → Word → Outcome → Type 0
 IsMeaning names printed word outcome = (reply : Reply) × IsReply names word reply × (outcome ≡ settled names printed reply)

@@ -6,7 +6,7 @@ use Rattle.wt_session.specs.declared.reply.CommandFault.{CommandFault}
 use Rattle.wt_session.specs.declared.reply.CommandFault.TheVariants.{Refused, OutOfMemory}
 use Rattle.wt_session.specs.Replies.{Reply, says, binds, stops}
 
--- the code's answer is a reply of which this holds; want of memory says nothing
+-- the code's answer is a reply of which this holds; running out of memory says nothing
 abbrev pub Replies : (Reply → Type 0) → Result Answer CommandFault → Type 0
 Replies P (Ok (Says text)) = P (says text)
 Replies P (Ok (Binds n v text)) = P (binds n v text)

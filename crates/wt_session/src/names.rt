@@ -56,7 +56,7 @@ impl Names {
         self.map.len() >= MAX_NAMES && self.get(name).is_none()
     }
 
-    /// Binds a name to a value; what it was bound to before is given up. On want of memory nothing changes.
+    /// Binds a name to a value; what it was bound to before is given up. Where memory runs out, nothing changes.
     #[tactic(auto, using(crate::proofs::Maps::bound))]
     pub fn put(&mut self, name: Seq<u8>, value: Value) -> Result<(), AllocError>
         ensures ok { OnOk result (self.new ≡ bind name value self.old) }

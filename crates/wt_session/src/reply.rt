@@ -34,7 +34,7 @@ pub enum CommandFault {
         /// The line with its newline, without the number of the command's line.
         text: Seq<u8>,
     },
-    /// Want of memory.
+    /// Out of memory.
     OutOfMemory,
 }
 

@@ -7,7 +7,7 @@ use Rattle.wt_refute.specs.View.{refutation}
 use Rattle.wt_tile.specs.Names.{IsName}
 use Rattle.wt_step.specs.declared.raw.RawStep.{RawStep}
 
--- at most so many levels, each node with at most 256 children, cells and tiles below 65,536, and nothing
+-- at most d levels, each node with at most 256 children, cells and tiles below 65,536, and nothing
 -- cited
 abbrev mutual
   pub IsSlim : ℕ → Refutation → Type 0

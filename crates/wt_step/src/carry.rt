@@ -18,7 +18,7 @@ use wt_grid::MAX_SIDE;
 use wt_pattern::Pattern;
 use wt_tile::Axis;
 
-/// Whether a side is longer than a component by so many cells.
+/// Whether a side is longer than a component by n cells.
 fn fits(d: i64, more: u64, side: usize) -> bool
     ensures { result ≡ nat_le (magnitude d + more) side }
 {
@@ -105,7 +105,7 @@ fn carried_vector(link: LinkRef<'_>, p: &Pattern, dx: i64, dy: i64) -> (i64, i64
 
 /// The period of the coarse pattern that a good step makes of a valid pattern with the period (dx, dy). For a
 /// marker step the component along the step's axis is counted in blocks, with its sign: the number of coarse
-/// lines, from the first on, that stand for so many lines of the cut core. The other component stays, and for
+/// lines, from the first on, that stand for n lines of the cut core. The other component stays, and for
 /// a restrict step both do. The core has to be as large as `has_room` says. Takes no memory.
 pub fn carry_period(link: LinkRef<'_>, p: &Pattern, dx: i64, dy: i64) -> (i64, i64)
     requires pattern { IsPattern (fine_of (link_of link)).tiles p.now }

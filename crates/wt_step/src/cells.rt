@@ -62,7 +62,7 @@ fn coarse_at(raw: &RawStep, p: &Pattern, index: &Index, blocks: &[Block], x: usi
     }
 }
 
-/// So many cells in reading order.
+/// n cells in reading order.
 #[tactic(auto, using(crate::proofs::Listed::listed_more))]
 pub fn coarse_cells(
     alloc: Global,

@@ -6,7 +6,7 @@ use std::alloc::{AllocError, Global};
 use wt_refute::{Refuted, copy_tree};
 use wt_seq::Seq;
 
-/// An equal step, good or not. Fails only for want of memory.
+/// An equal step, good or not. Fails only where memory runs out.
 pub fn copy_link(alloc: Global, raw: &RawLink) -> Result<RawLink, AllocError>
     ensures { IfOk result (λ copied. copied ≡ raw.now) }
 {

@@ -68,7 +68,7 @@ fn kept_tile(raw: &RawRestrict, p: &Pattern, places: &[u16], x: usize, y: usize)
     )
 }
 
-/// So many cells in reading order.
+/// n cells in reading order.
 #[tactic(auto, using(crate::proofs::Listed::listed_more))]
 fn kept_cells(
     alloc: Global,

@@ -41,7 +41,7 @@ pub record IsLayer (In : List ℕ → Type 0) (w : ℕ) (cells : List ℕ) : Typ
   pub sorted : IsSorted w cells
   pub lists : IsListOf In w cells
 
--- a set has more than so many rows of width w
+-- a set has more than n rows of width w
 abbrev pub HasMore : (List ℕ → Type 0) → ℕ → ℕ → Type 0
 HasMore In w room = (cells : List ℕ) × IsSorted w cells × ((r : ℕ) → r < rows_in w cells → In (row_at w cells r)) × (room < rows_in w cells)
 

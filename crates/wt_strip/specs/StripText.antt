@@ -21,7 +21,7 @@ use Rattle.wt_strip.specs.Listed.{rows_in, row_at}
 abbrev pub head_form : List (List ℕ) → Result (ℕ × ℕ) (LineFault What)
 head_form = whole (value_behind (codes "strip") (both (number_from_one MAX_COLUMNS Width) (number_from_one MAX_LAYERS Height)))
 
--- layer c: how many rows a layer has, behind so many rows of other layers
+-- layer c: how many rows a layer has, behind n rows of other layers
 abbrev pub count_form : ℕ → List (List ℕ) → Result ℕ (LineFault What)
 count_form before = whole (value_behind (codes "layer") (number_to (MAX_ROWS - before) Rows))
 
@@ -29,7 +29,7 @@ count_form before = whole (value_behind (codes "layer") (number_to (MAX_ROWS - b
 abbrev pub end_form : List (List ℕ) → Result (Unit {0}) (LineFault What)
 end_form = whole (value_behind (codes "end") (given tt))
 
--- the line with a layer's count, and then so many rows of width w; as cells, one row after the other
+-- the line with a layer's count, and then n rows of width w; as cells, one row after the other
 abbrev pub layer_part : ℕ → ℕ → ℕ × List Line → Result (List ℕ × (ℕ × List Line)) (TextFault What)
 layer_part w before = seen_as concat (counted_parts (one_line (count_form before)) (λ s. one_line (cells_form w)) no_state 0)
 
@@ -37,7 +37,7 @@ layer_part w before = seen_as concat (counted_parts (one_line (count_form before
 abbrev pub rows_with : ℕ → ℕ → List ℕ → ℕ
 rows_with w before cells = before + rows_in w cells
 
--- so many layers, the lowest first
+-- n layers, the lowest first
 abbrev pub layers_part : ℕ → ℕ → ℕ × List Line → Result (List (List ℕ) × (ℕ × List Line)) (TextFault What)
 layers_part w h = many_parts (layer_part w) (rows_with w) 0 h
 

@@ -33,7 +33,7 @@ pub record IsLeastPattern (ts : List Tile) (w h : ℕ) (g : Grid) : Type 0 where
   pub high : g.height ≡ h
   pub least : (k : Grid) → IsPattern ts k → k.width ≡ w → k.height ≡ h → (g.cells ≡ k.cells) ⊎ IsBefore g.cells k.cells
 
--- what layers of width w up to so many give: the exact ones, where one is empty; else the least pattern of as many rows
+-- what layers of width w up to n give: the exact ones, where one is empty; else the least pattern of as many rows
 abbrev pub IsStripped : List Tile → ℕ → ℕ → Stripped → Type 0
 IsStripped ts w limit (Empty l) = IsExact ts l × (l.width ≡ w) × (length l.layers ≤ limit)
 IsStripped ts w limit (Filled g) = IsLeastPattern ts w limit g × ((made : List (List ℕ)) × (length made ≡ limit) × AreFilled ts w made)
@@ -48,7 +48,7 @@ abbrev pub HasNoFault : List Tile → Stripped → Type 0
 HasNoFault ts (Empty l) = (f : StripFault) → IsStripFault ts l f → ⊥
 HasNoFault ts (Filled g) = Unit {0}
 
--- upon row p so many rows can be laid, one upon the other
+-- upon row p n rows can be laid, one upon the other
 abbrev pub CanRise : List Tile → ℕ → ℕ → List ℕ → Type 0
 CanRise ts w zero p = Unit {0}
 CanRise ts w (suc m) p = (q : List ℕ) × IsRow ts w q × IsUnder ts w p q × CanRise ts w m q

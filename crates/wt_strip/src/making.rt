@@ -109,8 +109,8 @@ fn strip_tiles(alloc: Global, tiles: &[Tile], w: usize, limit: usize) -> Result<
 
 /// The layers of valid rows of a width, from the lowest up: all of them up to the first that is empty, where one of the
 /// first `limit` is; else the least valid pattern of that width and of `limit` rows, as a list in reading order.
-/// `TooManyRows` comes exactly at the first layer with which they have more than `MAX_ROWS` rows; `OutOfMemory` only for
-/// want of memory. What it gives as empty `check_strip` accepts.
+/// `TooManyRows` is answered exactly at the first layer with which they have more than `MAX_ROWS` rows; `OutOfMemory` only
+/// where memory runs out. What it gives as empty `check_strip` accepts.
 #[tactic(auto, using(wt_tile::proofs::Sizes::few_tiles))]
 pub fn strip(
     alloc: Global,

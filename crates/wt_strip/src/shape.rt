@@ -10,7 +10,7 @@ use crate::Layers;
 use crate::limits::{MAX_COLUMNS, MAX_LAYERS, MAX_ROWS};
 use wt_seq::Seq;
 
-/// Whether each cell is one of so many tiles.
+/// Whether each cell is one of n tiles.
 fn are_tiles(count: usize, cells: &[u16]) -> bool
     ensures { result ≡ list_all (is_below count) cells.now }
 {
@@ -43,7 +43,7 @@ fn are_layers(count: usize, w: usize, layers: &[Seq<u16>]) -> bool
     true
 }
 
-/// Whether all layers together have at most so many rows as they may.
+/// Whether all layers together have at most as many rows as they may.
 fn are_few(w: usize, layers: &[Seq<u16>]) -> bool
     requires { 1 ≤ w }
     ensures { result ≡ nat_le (fill (rows_in w) layers.now) MAX_ROWS }

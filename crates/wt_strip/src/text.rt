@@ -48,7 +48,7 @@ fn head_at(place: Place<'_>) -> Result<((usize, usize), Place<'_>), TextFault>
     Ok((head, next))
 }
 
-/// How many rows a layer has, from its first line, behind so many rows of other layers.
+/// How many rows a layer has, from its first line, behind n rows of other layers.
 #[tactic(auto, unfolding(wt_text::specs::Readers::whole, wt_text::specs::Readers::value_behind))]
 fn count_of(before: usize, line: &[u8]) -> Result<usize, LineFault>
     requires { before ≤ MAX_ROWS }
@@ -83,7 +83,7 @@ fn joined(alloc: Global, rows: &[Seq<u16>]) -> Result<Vec<u16>, AllocError>
     Ok(cells)
 }
 
-/// A layer of rows of width w, behind so many rows of other layers.
+/// A layer of rows of width w, behind n rows of other layers.
 #[tactic(auto, using(crate::proofs::TextLaws::rows_read), unfolding(wt_text::specs::Readers::seen_as, wt_text::specs::Readers::counted_parts))]
 fn layer_at(
     alloc: Global,
@@ -102,7 +102,7 @@ fn layer_at(
     Ok((Seq::new(cells), place))
 }
 
-/// So many layers of rows of width w, the lowest first.
+/// n layers of rows of width w, the lowest first.
 fn layers_at(
     alloc: Global,
     w: usize,
@@ -230,7 +230,7 @@ fn push_end(out: &mut Vec<u8>) -> Result<(), AllocError>
     end_line(out)
 }
 
-/// Appends the text of layers. On want of memory a part of it may stand behind what was there.
+/// Appends the text of layers. Where memory runs out, a part of it may stand behind what was there.
 pub fn push_strip(out: &mut Vec<u8>, layers: &Layers) -> Result<(), AllocError>
     requires { 1 ≤ layers.now.width }
     ensures { OnOk result (out.new.items ≡ out.old.items ++ bytes_of (strip_lines layers.now)) }

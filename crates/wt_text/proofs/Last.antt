@@ -116,7 +116,7 @@ length_map : (ns : List ℕ) → length (map decimal ns) ≡ length ns
 length_map [] = refl
 length_map (n ∷ ns) = ap suc (length_map ns)
 
--- a count, and so many numbers
+-- a count, and n numbers
 pub numbers_last : {W : Type 0} (many : ℕ) (kind : W) (most : ℕ) (what : W) → many < 2 ^ 64 → most < 2 ^ 64
     → IsLast (counted_numbers many kind most what) counted_spelling (λ ns. (length ns ≤ many) × AllFit (λ n. n ≤ most) ns)
 numbers_last {W} many kind most what small_many small = record {

@@ -91,7 +91,7 @@ abbrev pub numbers_to : {W : Type 0} → ℕ → W → List (List ℕ) → Optio
 numbers_to most what [] = Some (Ok [])
 numbers_to most what (t ∷ ts) = number t >>= λ n. numbers_to most what ts >>= λ ns. Some (value_in_front (within most what n) ns)
 
--- a count, and so many numbers to the end of the line
+-- a count, and n numbers to the end of the line
 abbrev pub counted_numbers : {W : Type 0} → ℕ → W → ℕ → W → List (List ℕ) → Option (Result (List ℕ) W × List (List ℕ))
 counted_numbers many kind most what [] = None
 counted_numbers many kind most what (t ∷ ts) = number t >>= λ n. if nat_eq (length ts) n then (numbers_to most what ts >>= λ ns. Some (counted (within many kind n) ns, [])) else None
@@ -148,7 +148,7 @@ one_line read p = line_at read p.0 p.1
 unfoldable pub both_parts : {W A B : Type 0} → (ℕ × List Line → Result (A × (ℕ × List Line)) (TextFault W)) → (ℕ × List Line → Result (B × (ℕ × List Line)) (TextFault W)) → ℕ × List Line → Result ((A × B) × (ℕ × List Line)) (TextFault W)
 both_parts ra rb p = ra p then λ a. rb a.1 then λ b. Ok ((a.0, b.0), b.1)
 
--- so many parts, each read by what the parts before have left
+-- n parts, each read by what the parts before have left
 abbrev pub many_parts : {W A S : Type 0} → (S → ℕ × List Line → Result (A × (ℕ × List Line)) (TextFault W)) → (S → A → S) → S → ℕ → ℕ × List Line → Result (List A × (ℕ × List Line)) (TextFault W)
 many_parts read next s zero p = Ok ([], p)
 many_parts read next s (suc n) p = read s p then λ a. many_parts read next (next s a.0) n a.1 then λ as'. Ok (a.0 ∷ as'.0, as'.1)
@@ -158,7 +158,7 @@ abbrev pub left_by : {A S : Type 0} → (S → A → S) → S → List A → S
 left_by next s [] = s
 left_by next s (x ∷ xs) = left_by next (next s x) xs
 
--- a count, and so many parts
+-- a count, and n parts
 unfoldable pub counted_parts : {W A S : Type 0} → (ℕ × List Line → Result (ℕ × (ℕ × List Line)) (TextFault W)) → (S → ℕ × List Line → Result (A × (ℕ × List Line)) (TextFault W)) → (S → A → S) → S → ℕ × List Line → Result (List A × (ℕ × List Line)) (TextFault W)
 counted_parts count read next s p = count p then λ n. many_parts read next s n.0 n.1
 

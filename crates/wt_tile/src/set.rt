@@ -84,7 +84,7 @@ impl<'a> SetRef<'a> {
         SetRef { list }
     }
 
-    /// An equal set of its own, names included. Fails only for want of memory.
+    /// An equal set of its own, names included. Fails only where memory runs out.
     pub fn copy(self, alloc: Global) -> Result<TileSet, AllocError>
         ensures { IfOk result (λ set. set ≡ self.entry.list.now) }
     {

@@ -55,7 +55,7 @@ fn names_the_first_fault(rt: HostRuntime) -> Result<(), Fail> {
         first: 0,
         second: 2,
     });
-    // Four tiles of which the first so many count, the names of each axis, and the fault.
+    // Four tiles of which the first n count, the names of each axis, and the fault.
     let rows: [([Tile; 4], usize, &[u8], &[u8], Option<SetFault>); 10] = [
         ([plain; 4], 0, b"aa", b"", Some(SetFault::Empty)),
         ([plain; 4], 1, b"a", b"a", None),
@@ -84,7 +84,7 @@ fn names_the_first_fault(rt: HostRuntime) -> Result<(), Fail> {
     Ok(())
 }
 
-/// So many tiles, each with a colour of its own on axis 1.
+/// n tiles, each with a colour of its own on axis 1.
 fn many(alloc: Global, count: u16) -> Result<TileList, AllocError>
     requires { count ≤ 257 }
 {

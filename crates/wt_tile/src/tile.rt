@@ -33,7 +33,7 @@ pub struct TileList {
 }
 
 impl TileList {
-    /// An equal list. Fails only for want of memory.
+    /// An equal list. Fails only where memory runs out.
     pub fn copy(&self, alloc: Global) -> Result<TileList, AllocError>
         ensures { IfOk result (λ copied. copied ≡ self.now) }
     {

@@ -47,7 +47,7 @@ fn table(alloc: Global, sides: &Sides<'_>, way: Way) -> Result<Vec<[u64; 4]>, Al
 }
 
 impl<'a> Tables<'a> {
-    /// The tables of a list of at most 256 tiles. Fails only for want of memory.
+    /// The tables of a list of at most 256 tiles. Fails only where memory runs out.
     pub fn new(alloc: Global, tiles: &'a [Tile]) -> Result<Tables<'a>, AllocError>
         requires { length tiles.now ≤ MAX_TILES }
         ensures { IfOk result (λ made. made.tiles.now ≡ tiles.now) }

@@ -7,7 +7,7 @@ ghost use Rattle.wt_write.specs.Behind.{behind_spaces};
 use crate::words::{end_line, number_behind, push_number};
 use std::alloc::AllocError;
 
-/// Appends each number behind a space. On want of memory nothing is appended.
+/// Appends each number behind a space. Where memory runs out, nothing is appended.
 pub fn push_numbers(out: &mut Vec<u8>, numbers: &[u16]) -> Result<(), AllocError>
     ensures ok { OnOk result (out.new.items ≡ out.old.items ++ behind_spaces (map decimal numbers.now)) }
     ensures err { OnErr result (out.new.items ≡ out.old.items) }
@@ -22,7 +22,7 @@ pub fn push_numbers(out: &mut Vec<u8>, numbers: &[u16]) -> Result<(), AllocError
     Ok(())
 }
 
-/// Appends a line of numbers with a space between each two. On want of memory nothing is appended.
+/// Appends a line of numbers with a space between each two. Where memory runs out, nothing is appended.
 pub fn push_row(out: &mut Vec<u8>, numbers: &[u16]) -> Result<(), AllocError>
     ensures ok { OnOk result (out.new.items ≡ out.old.items ++ spaced (map decimal numbers.now) ++ 10 ∷ []) }
     ensures err { OnErr result (out.new.items ≡ out.old.items) }
@@ -35,7 +35,7 @@ pub fn push_row(out: &mut Vec<u8>, numbers: &[u16]) -> Result<(), AllocError>
     done
 }
 
-// On want of memory a part of the line may stand behind what was there.
+// Where memory runs out, a part of the line may stand behind what was there.
 fn put_row(out: &mut Vec<u8>, numbers: &[u16]) -> Result<(), AllocError>
     ensures ok { OnOk result (out.new.items ≡ out.old.items ++ spaced (map decimal numbers.now) ++ 10 ∷ []) }
     ensures err { OnErr result (take (length out.old.items) out.new.items ≡ out.old.items) }

@@ -5,7 +5,7 @@ ghost use Rattle.std.specs.Fmt.{decimal};
 use itoa::Buffer;
 use std::alloc::AllocError;
 
-/// Appends a word's bytes. On want of memory nothing is appended.
+/// Appends a word's bytes. Where memory runs out, nothing is appended.
 pub fn push_word(out: &mut Vec<u8>, word: &str) -> Result<(), AllocError>
     ensures ok { OnOk result (out.new.items ≡ out.old.items ++ word.now) }
     ensures err { OnErr result (out.new.items ≡ out.old.items) }
@@ -13,7 +13,7 @@ pub fn push_word(out: &mut Vec<u8>, word: &str) -> Result<(), AllocError>
     out.extend_from_slice(word.as_bytes())
 }
 
-/// Appends a number's decimal digits. On want of memory nothing is appended.
+/// Appends a number's decimal digits. Where memory runs out, nothing is appended.
 pub fn push_number(out: &mut Vec<u8>, number: u64) -> Result<(), AllocError>
     ensures ok { OnOk result (out.new.items ≡ out.old.items ++ decimal number) }
     ensures err { OnErr result (out.new.items ≡ out.old.items) }
@@ -22,7 +22,7 @@ pub fn push_number(out: &mut Vec<u8>, number: u64) -> Result<(), AllocError>
     out.extend_from_slice(buffer.format(number).as_bytes())
 }
 
-/// Appends a space and bytes. On want of memory nothing is appended.
+/// Appends a space and bytes. Where memory runs out, nothing is appended.
 pub fn bytes_behind(out: &mut Vec<u8>, bytes: &[u8]) -> Result<(), AllocError>
     ensures ok { OnOk result (out.new.items ≡ out.old.items ++ 32 ∷ bytes.now) }
     ensures err { OnErr result (out.new.items ≡ out.old.items) }
@@ -36,7 +36,7 @@ pub fn bytes_behind(out: &mut Vec<u8>, bytes: &[u8]) -> Result<(), AllocError>
     done
 }
 
-/// Appends a space and a word. On want of memory nothing is appended.
+/// Appends a space and a word. Where memory runs out, nothing is appended.
 pub fn word_behind(out: &mut Vec<u8>, word: &str) -> Result<(), AllocError>
     ensures ok { OnOk result (out.new.items ≡ out.old.items ++ 32 ∷ word.now) }
     ensures err { OnErr result (out.new.items ≡ out.old.items) }
@@ -44,7 +44,7 @@ pub fn word_behind(out: &mut Vec<u8>, word: &str) -> Result<(), AllocError>
     bytes_behind(out, word.as_bytes())
 }
 
-/// Appends a space and a number's decimal digits. On want of memory nothing is appended.
+/// Appends a space and a number's decimal digits. Where memory runs out, nothing is appended.
 pub fn number_behind(out: &mut Vec<u8>, number: u64) -> Result<(), AllocError>
     ensures ok { OnOk result (out.new.items ≡ out.old.items ++ 32 ∷ decimal number) }
     ensures err { OnErr result (out.new.items ≡ out.old.items) }
@@ -53,7 +53,7 @@ pub fn number_behind(out: &mut Vec<u8>, number: u64) -> Result<(), AllocError>
     bytes_behind(out, buffer.format(number).as_bytes())
 }
 
-/// Appends a newline. On want of memory nothing is appended.
+/// Appends a newline. Where memory runs out, nothing is appended.
 pub fn end_line(out: &mut Vec<u8>) -> Result<(), AllocError>
     ensures ok { OnOk result (out.new.items ≡ out.old.items ++ 10 ∷ []) }
     ensures err { OnErr result (out.new.items ≡ out.old.items) }

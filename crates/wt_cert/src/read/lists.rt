@@ -1,4 +1,4 @@
-// The lists of a block, each a count and so many lines.
+// The lists of a block, each a count and n lines.
 ghost use Rattle.std.specs.Prelude.{◌≡◌, ◌≤◌, IfOk};
 ghost use Rattle.wt_line.specs.Faults.{ReadsText};
 ghost use Rattle.wt_text.specs.Readers.{one_line, many_parts, left_by};
@@ -125,7 +125,7 @@ pub fn tile_list_at<'a>(
     tiles_at(alloc, count as usize, place)
 }
 
-/// A word, a count, and so many numbers in one line.
+/// A word, a count, and n numbers in one line.
 #[tactic(auto, unfolding(crate::specs::Parts::numbers_part, wt_text::specs::Readers::one_line))]
 pub fn numbers_at<'a>(
     alloc: Global,

@@ -29,7 +29,7 @@ fn numbers_to_end(alloc: Global, rest: Rest<'_>) -> Result<(Result<Vec<u16>, Wha
     Ok((numbers, count))
 }
 
-/// A count, and so many numbers to the end of the line.
+/// A count, and n numbers to the end of the line.
 fn counted_numbers(alloc: Global, rest: Rest<'_>) -> Result<Result<Vec<u16>, What>, LineFault>
     ensures { ReadsTokens (λ x. (mapped (λ v. v.items) x, [])) result (spec.counted_numbers MAX_TILES Tiles MOST Number (tokens_left rest.entry)) }
 {
@@ -49,7 +49,7 @@ fn counted_numbers(alloc: Global, rest: Rest<'_>) -> Result<Result<Vec<u16>, Wha
     Ok(numbers)
 }
 
-/// A word, a count, and so many numbers, as `markers m t1 .. tm`.
+/// A word, a count, and n numbers, as `markers m t1 .. tm`.
 #[tactic(auto, unfolding(crate::specs::LineForms::numbers_form, wt_text::specs::Readers::whole, wt_text::specs::Readers::value_behind))]
 pub fn numbers_row(alloc: Global, name: &str, line: &[u8]) -> Result<Vec<u16>, LineFault>
     ensures { ReadsLine (λ v. v.items) result (numbers_form name.now (tokens line.now)) }

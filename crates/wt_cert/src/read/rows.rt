@@ -81,7 +81,7 @@ fn radius_in(
     }
 }
 
-/// A tree to the end of the line, where so many nodes came before: its form first, and then its limits.
+/// A tree to the end of the line, where n nodes came before: its form first, and then its limits.
 #[tactic(auto, unfolding(crate::specs::Trees::tree_to_end))]
 fn tree_to_end(
     alloc: Global,

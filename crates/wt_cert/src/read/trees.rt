@@ -69,7 +69,7 @@ fn node_ending(citing: bool, token: &[u8]) -> Result<Ending, LineFault>
     Ok(Ending::Children(value as u16))
 }
 
-/// A tree of at most so many levels, where so many nodes came before.
+/// A tree of at most d levels, where n nodes came before.
 #[cycle(grow)]
 pub fn tree_within(
     alloc: Global,
@@ -112,7 +112,7 @@ pub fn tree_within(
     }
 }
 
-/// So many branches, each with a tree of at most so many levels.
+/// n branches, each with a tree of at most d levels.
 #[cycle(grow)]
 fn branches_within(
     alloc: Global,

@@ -27,7 +27,7 @@ pub fn push_count(out: &mut Vec<u8>, word: &str, count: usize) -> Result<(), All
     Ok(())
 }
 
-/// Appends a line of a word, a count and so many numbers.
+/// Appends a line of a word, a count and n numbers.
 pub fn push_list(out: &mut Vec<u8>, word: &str, numbers: &[u16]) -> Result<(), AllocError>
     ensures { OnOk result (out.new.items ≡ out.old.items ++ bytes_of (line (numbers_tokens word.now numbers.now))) }
 {

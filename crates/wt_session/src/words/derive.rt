@@ -79,7 +79,7 @@ fn count_of(chain: &Option<Chain>) -> usize
     }
 }
 
-/// The steps with one more, which takes apart their last set. Fails only for want of memory.
+/// The steps with one more, which takes apart their last set. Fails only where memory runs out.
 fn pushed(alloc: Global, chain: Option<Chain>, step: Step) -> Result<Chain, AllocError>
     requires { push_fault (links_of chain) (Marker step) ≡ None }
     ensures { IfOk result (λ longer. longer ≡ links_of chain ++ Marker step ∷ []) }
