@@ -9,6 +9,8 @@ mod images;
 mod inducing;
 mod laws;
 mod meeting;
+#[cfg(test)]
+mod tests;
 mod zones;
 
 pub use fault::InduceFault;
