@@ -9,10 +9,10 @@ use Rattle.wt_pattern.specs.TileRows.{no_state, rows_list, row_part, tile_rows}
 use Rattle.wt_pattern.specs.PatternRows.{cells_form, rows_grid, pattern_rows}
 use Rattle.wt_script.specs.declared.word.Command.{Command}
 use Rattle.wt_script.specs.declared.kinds.Kind.{Kind}
-use Rattle.wt_script.specs.declared.kinds.Kind.TheVariants.{Tiles, Pattern, Valid, Period, Dominoes, Surround, Markers, Fuse, Same, Derive, Search, Cert, Check, Expand, Image, Desub, Bound, Primitive, Seeds, Census, Draw, Json}
+use Rattle.wt_script.specs.declared.kinds.Kind.TheVariants.{Tiles, Pattern, Valid, Period, Dominoes, Surround, Markers, Fuse, Same, Derive, Search, Cert, Check, Upgrade, Lighten, Expand, Image, Desub, Bound, Primitive, Seeds, Census, Draw, Json}
 use Rattle.wt_script.specs.Raw.{raw_from, raw_lines}
 use Rattle.wt_script.specs.Forms.{tiles_form, pattern_form, check_form}
-use Rattle.wt_script.specs.Parts.{Part, to_tiles, to_pattern, to_check, tiles_part, pattern_part, check_part, valid_part, cert_part, primitive_part, json_part, period_part, bound_part, dominoes_part, markers_part, surround_part, fuse_part, same_part, derive_part, search_part, expand_part, image_part, desub_part, seeds_part, census_part, draw_part, kind_at, part_of}
+use Rattle.wt_script.specs.Parts.{Part, to_tiles, to_pattern, to_check, tiles_part, pattern_part, check_part, valid_part, cert_part, primitive_part, json_part, period_part, bound_part, dominoes_part, markers_part, surround_part, fuse_part, same_part, derive_part, search_part, upgrade_part, lighten_part, expand_part, image_part, desub_part, seeds_part, census_part, draw_part, kind_at, part_of}
 use Rattle.wt_script.specs.Script.{is_skipped, command_at, piece_at}
 
 abbrev pub Keeps : {A : Type 0} → Part A → Type 0
@@ -105,7 +105,7 @@ unfolding raw_lines
 raw_keeps k p x q e = raw_keep k p.0 p.1 x q e
 
 pub command_takes : (kind : Option Kind) → Takes (part_of kind)
-unfolding tiles_part pattern_part check_part valid_part cert_part primitive_part json_part period_part bound_part dominoes_part markers_part surround_part fuse_part same_part derive_part search_part expand_part image_part desub_part seeds_part census_part draw_part
+unfolding tiles_part pattern_part check_part valid_part cert_part primitive_part json_part period_part bound_part dominoes_part markers_part surround_part fuse_part same_part derive_part search_part upgrade_part lighten_part expand_part image_part desub_part seeds_part census_part draw_part
 command_takes None p x q e = absurd cc
 command_takes (Some Tiles) p x q e = seen_takes to_tiles _ (by_takes (one_line tiles_form) (λ head. tile_rows head.1) (one_takes tiles_form) (λ head. rows_keep head.1)) p x q e
 command_takes (Some Pattern) p x q e = seen_takes to_pattern _ (by_takes (one_line pattern_form) (λ head. pattern_rows head.1.1.0 head.1.1.1) (one_takes pattern_form) (λ head. grid_keeps head.1.1.0 head.1.1.1)) p x q e
@@ -120,6 +120,8 @@ command_takes (Some Same) p x q e = seen_takes _ _ (one_takes _) p x q e
 command_takes (Some Derive) p x q e = seen_takes _ _ (one_takes _) p x q e
 command_takes (Some Search) p x q e = seen_takes _ _ (one_takes _) p x q e
 command_takes (Some Cert) p x q e = seen_takes _ _ (one_takes _) p x q e
+command_takes (Some Upgrade) p x q e = seen_takes _ _ (one_takes _) p x q e
+command_takes (Some Lighten) p x q e = seen_takes _ _ (one_takes _) p x q e
 command_takes (Some Expand) p x q e = seen_takes _ _ (one_takes _) p x q e
 command_takes (Some Image) p x q e = seen_takes _ _ (one_takes _) p x q e
 command_takes (Some Desub) p x q e = seen_takes _ _ (one_takes _) p x q e

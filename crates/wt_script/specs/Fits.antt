@@ -6,7 +6,7 @@ use Rattle.wt_text.specs.Spellings.{AllFit}
 use Rattle.wt_tile.specs.Sets.{set_fault}
 use Rattle.wt_script.specs.declared.limits.TheConstants.{MAX_AXES, MAX_LEVELS, MAX_MADE, MAX_POWER, MAX_TURNS}
 use Rattle.wt_script.specs.declared.word.Word.{Word}
-use Rattle.wt_script.specs.declared.word.Word.TheVariants.{Tiles, Pattern, Valid, Period, Dominoes, Surround, Markers, Fuse, Same, Derive, Search, Cert, Check, Expand, Image, Desub, Bound, Primitive, Seeds, Census, Draw, Json}
+use Rattle.wt_script.specs.declared.word.Word.TheVariants.{Tiles, Pattern, Valid, Period, Dominoes, Surround, Markers, Fuse, Same, Derive, Search, Cert, Check, Upgrade, Lighten, Expand, Image, Desub, Bound, Primitive, Seeds, Census, Draw, Json}
 use Rattle.wt_script.specs.declared.word.Command.{Command}
 
 -- the limits and forms of a command's words and lines that its types don't tell
@@ -24,6 +24,8 @@ Fits (Derive name base axis side radius class budget) = radius ≤ MAX_RADIUS
 Fits (Search name set axes side radius levels budget) = (1 ≤ length axes) × (length axes ≤ MAX_AXES) × (radius ≤ MAX_RADIUS) × (1 ≤ levels) × (levels ≤ MAX_LEVELS)
 Fits (Cert chain) = Unit {0}
 Fits (Check name lines) = Unit {0}
+Fits (Upgrade name chain) = Unit {0}
+Fits (Lighten name chain budget) = Unit {0}
 Fits (Expand name chain width height) = (1 ≤ width) × (width ≤ MAX_MADE) × (1 ≤ height) × (height ≤ MAX_MADE)
 Fits (Image chain tile) = Unit {0}
 Fits (Desub name chain step pattern) = Unit {0}

@@ -44,9 +44,9 @@ surround_form = whole (value_behind (codes "surround") (both name (both axis (bo
 unfoldable pub fuse_form : Form (List ℕ × (Axis × (ℕ × ℕ)))
 fuse_form = whole (value_behind (codes "fuse") (both name (both axis (both small small))))
 
--- same S T
-unfoldable pub same_form : Form (List ℕ × List ℕ)
-same_form = whole (value_behind (codes "same") (both name name))
+-- same S T, or upgrade N C
+unfoldable pub names_form : List ℕ → Form (List ℕ × List ℕ)
+names_form w = whole (value_behind w (both name name))
 
 -- derive N F A W r j B
 unfoldable pub derive_form : Form (List ℕ × (List ℕ × (Axis × (Side × (ℕ × (ℕ × ℕ))))))
@@ -59,6 +59,10 @@ search_form = whole (value_behind (codes "search") (both name (both name (both a
 -- check N n
 unfoldable pub check_form : Form (List ℕ × ℕ)
 check_form = whole (value_behind (codes "check") (both name large))
+
+-- lighten N C B
+unfoldable pub lighten_form : Form (List ℕ × (List ℕ × ℕ))
+lighten_form = whole (value_behind (codes "lighten") (both name (both name large)))
 
 -- expand N C w h
 unfoldable pub expand_form : Form (List ℕ × (List ℕ × (ℕ × ℕ)))

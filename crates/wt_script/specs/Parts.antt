@@ -15,8 +15,8 @@ use Rattle.wt_pattern.specs.declared.drawing.Style.{Style}
 use Rattle.wt_script.specs.declared.word.Word.{Word}
 use Rattle.wt_script.specs.declared.word.Word.TheVariants as word
 use Rattle.wt_script.specs.declared.kinds.Kind.{Kind}
-use Rattle.wt_script.specs.declared.kinds.Kind.TheVariants.{Tiles, Pattern, Valid, Period, Dominoes, Surround, Markers, Fuse, Same, Derive, Search, Cert, Check, Expand, Image, Desub, Bound, Primitive, Seeds, Census, Draw, Json}
-use Rattle.wt_script.specs.Forms.{tiles_form, pattern_form, named_form, vector_form, windows_form, surround_form, fuse_form, same_form, derive_form, search_form, check_form, expand_form, image_form, desub_form, seeds_form, census_form, draw_form}
+use Rattle.wt_script.specs.declared.kinds.Kind.TheVariants.{Tiles, Pattern, Valid, Period, Dominoes, Surround, Markers, Fuse, Same, Derive, Search, Cert, Check, Upgrade, Lighten, Expand, Image, Desub, Bound, Primitive, Seeds, Census, Draw, Json}
+use Rattle.wt_script.specs.Forms.{tiles_form, pattern_form, named_form, vector_form, windows_form, surround_form, fuse_form, names_form, derive_form, search_form, check_form, lighten_form, expand_form, image_form, desub_form, seeds_form, census_form, draw_form}
 use Rattle.wt_script.specs.Raw.{raw_lines}
 
 -- some lines from a place on, and the place behind them
@@ -100,7 +100,7 @@ abbrev pub to_same : List ℕ × List ℕ → Word
 to_same x = word.Same x.0 x.1
 
 unfoldable pub same_part : Part Word
-same_part = seen_as to_same (one_line same_form)
+same_part = seen_as to_same (one_line (names_form (codes "same")))
 
 abbrev pub to_derive : List ℕ × (List ℕ × (Axis × (Side × (ℕ × (ℕ × ℕ))))) → Word
 to_derive x = word.Derive x.0 x.1.0 x.1.1.0 x.1.1.1.0 x.1.1.1.1.0 x.1.1.1.1.1.0 x.1.1.1.1.1.1
@@ -113,6 +113,18 @@ to_search x = word.Search x.0 x.1.0 x.1.1.0 x.1.1.1.0 x.1.1.1.1.0 x.1.1.1.1.1.0 
 
 unfoldable pub search_part : Part Word
 search_part = seen_as to_search (one_line search_form)
+
+abbrev pub to_upgrade : List ℕ × List ℕ → Word
+to_upgrade x = word.Upgrade x.0 x.1
+
+unfoldable pub upgrade_part : Part Word
+upgrade_part = seen_as to_upgrade (one_line (names_form (codes "upgrade")))
+
+abbrev pub to_lighten : List ℕ × (List ℕ × ℕ) → Word
+to_lighten x = word.Lighten x.0 x.1.0 x.1.1
+
+unfoldable pub lighten_part : Part Word
+lighten_part = seen_as to_lighten (one_line lighten_form)
 
 abbrev pub to_expand : List ℕ × (List ℕ × (ℕ × ℕ)) → Word
 to_expand x = word.Expand x.0 x.1.0 x.1.1.0 x.1.1.1
@@ -167,6 +179,8 @@ kind_of w =
     else if bytes_eq w (codes "search") then Some Search
     else if bytes_eq w (codes "cert") then Some Cert
     else if bytes_eq w (codes "check") then Some Check
+    else if bytes_eq w (codes "upgrade") then Some Upgrade
+    else if bytes_eq w (codes "lighten") then Some Lighten
     else if bytes_eq w (codes "expand") then Some Expand
     else if bytes_eq w (codes "image") then Some Image
     else if bytes_eq w (codes "desub") then Some Desub
@@ -202,6 +216,8 @@ part_of (Some Derive) p = derive_part p
 part_of (Some Search) p = search_part p
 part_of (Some Cert) p = cert_part p
 part_of (Some Check) p = check_part p
+part_of (Some Upgrade) p = upgrade_part p
+part_of (Some Lighten) p = lighten_part p
 part_of (Some Expand) p = expand_part p
 part_of (Some Image) p = image_part p
 part_of (Some Desub) p = desub_part p

@@ -22,6 +22,8 @@ pub enum Kind {
     Search,
     Cert,
     Check,
+    Upgrade,
+    Lighten,
     Expand,
     Image,
     Desub,
@@ -62,6 +64,10 @@ fn kind_of(token: &[u8]) -> Option<Kind>
         Some(Kind::Cert)
     } else if token == b"check".as_slice() {
         Some(Kind::Check)
+    } else if token == b"upgrade".as_slice() {
+        Some(Kind::Upgrade)
+    } else if token == b"lighten".as_slice() {
+        Some(Kind::Lighten)
     } else if token == b"expand".as_slice() {
         Some(Kind::Expand)
     } else if token == b"image".as_slice() {

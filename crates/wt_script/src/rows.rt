@@ -2,7 +2,7 @@
 ghost use Rattle.std.specs.Prelude.{◌^◌, ◌<◌, ◌≤◌, IfOk, unsigned_abs};
 ghost use Rattle.wt_text.specs.Words.{tokens};
 ghost use Rattle.wt_line.specs.Faults.{ReadsLine};
-ghost use Rattle.wt_script.specs.Forms.{named_form, vector_form, windows_form};
+ghost use Rattle.wt_script.specs.Forms.{named_form, names_form, vector_form, windows_form};
 
 use crate::token;
 use crate::token::{component, large};
@@ -18,6 +18,18 @@ pub fn named_row<'a>(name: &str, line: &'a [u8]) -> Result<&'a [u8], LineFault>
     let (found, rest) = token::name(rest)?;
     line_end(rest)?;
     Ok(found)
+}
+
+/// A word and two names.
+#[tactic(auto, using(wt_line::proofs::Ended::goes_on_is_wrong), unfolding(crate::specs::Forms::names_form, wt_text::specs::Readers::whole, wt_text::specs::Readers::value_behind, wt_text::specs::Readers::both))]
+pub fn names_row<'a>(name: &str, line: &'a [u8]) -> Result<(&'a [u8], &'a [u8]), LineFault>
+    ensures read { ReadsLine (λ x. (x.0.now, x.1.now)) result (names_form name.now (tokens line.now)) }
+{
+    let rest = word(name, Rest::new(line))?;
+    let (first, rest) = token::name(rest)?;
+    let (second, rest) = token::name(rest)?;
+    line_end(rest)?;
+    Ok((first, second))
 }
 
 /// A word, a name and a vector.

@@ -9,7 +9,7 @@ ghost use Rattle.wt_script.specs.Script as spec;
 ghost use Rattle.wt_script.specs.Fits.{Fits, AllFitting};
 ghost use Rattle.wt_script.specs.Seen.{PieceFits, said};
 
-use crate::chains::{bound_at, cert_at, expand_at, image_at};
+use crate::chains::{bound_at, cert_at, expand_at, image_at, lighten_at, upgrade_at};
 use crate::counts::{census_at, primitive_at, seeds_at};
 use crate::kinds::{Kind, kind_on};
 use crate::own::{check_at, pattern_at, set_at};
@@ -40,6 +40,8 @@ fn word_at(alloc: Global, kind: Kind, place: Place<'_>) -> Result<(Word, Place<'
         Kind::Search => search_at(alloc, place),
         Kind::Cert => cert_at(alloc, place),
         Kind::Check => check_at(alloc, place),
+        Kind::Upgrade => upgrade_at(alloc, place),
+        Kind::Lighten => lighten_at(alloc, place),
         Kind::Expand => expand_at(alloc, place),
         Kind::Image => image_at(alloc, place),
         Kind::Desub => desub_at(alloc, place),

@@ -3,10 +3,11 @@ ghost use Rattle.std.specs.Prelude.{◌≡◌, IfOk};
 ghost use Rattle.wt_text.specs.Words.{tokens};
 ghost use Rattle.wt_line.specs.Faults.{ReadsLine};
 ghost use Rattle.wt_line.specs.Left.{ReadsPlace};
-ghost use Rattle.wt_script.specs.Forms.{fuse_form, same_form};
+ghost use Rattle.wt_script.specs.Forms.{fuse_form};
 ghost use Rattle.wt_script.specs.Parts.{fuse_part, same_part};
 ghost use Rattle.wt_script.specs.Fits.{Fits};
 
+use crate::rows::names_row;
 use crate::token::{name, owned};
 use crate::word::Word;
 use std::alloc::Global;
@@ -45,17 +46,6 @@ pub fn fuse_at(alloc: Global, place: Place<'_>) -> Result<(Word, Place<'_>), Tex
     Ok((word, next))
 }
 
-#[tactic(auto, using(wt_line::proofs::Ended::goes_on_is_wrong), unfolding(crate::specs::Forms::same_form, wt_text::specs::Readers::whole, wt_text::specs::Readers::value_behind, wt_text::specs::Readers::both))]
-fn same_row(line: &[u8]) -> Result<(&[u8], &[u8]), LineFault>
-    ensures read { ReadsLine (λ x. (x.0.now, x.1.now)) result (same_form (tokens line.now)) }
-{
-    let rest = word("same", Rest::new(line))?;
-    let (from, rest) = name(rest)?;
-    let (to, rest) = name(rest)?;
-    line_end(rest)?;
-    Ok((from, to))
-}
-
 /// `same S T`.
 #[tactic(auto, unfolding(crate::specs::Parts::same_part, wt_text::specs::Readers::one_line, wt_text::specs::Readers::seen_as))]
 pub fn same_at(alloc: Global, place: Place<'_>) -> Result<(Word, Place<'_>), TextFault>
@@ -63,7 +53,7 @@ pub fn same_at(alloc: Global, place: Place<'_>) -> Result<(Word, Place<'_>), Tex
     ensures fits { IfOk result (λ x. Fits x.0) }
 {
     let (line, next) = next_line(place)?;
-    let (from, to) = placed(same_row(line), place.number)?;
+    let (from, to) = placed(names_row("same", line), place.number)?;
     let word = Word::Same {
         from: owned(alloc, from)?,
         to: owned(alloc, to)?,

@@ -25,9 +25,9 @@ fn reads_each_word(rt: HostRuntime) {
     let text = b"tiles s 0\npattern p s 1 1\n0\nvalid p\nperiod p -9223372036854775807 0\n\
 dominoes s 1 4 18446744073709551615\nsurround s 2 65535 0 0 0\nmarkers s 2 1 9\nfuse s 1 0 1\nsame s t\n\
 derive c s 1 after 0 0 9\nsearch c s 12121212 before 1 32 9\ncert c\ncheck c 0\nexpand p c 1024 1\nimage c 0\n\
-desub q c 0 p\nbound c 1 0\nprimitive c\nseeds c 64\ncensus c 4096 0\ndraw p boxes\njson a_name_of_thirty_two_bytes_0123\n";
+desub q c 0 p\nbound c 1 0\nprimitive c\nupgrade d c\nlighten d c 18446744073709551615\nseeds c 64\ncensus c 4096 0\ndraw p boxes\njson a_name_of_thirty_two_bytes_0123\n";
     let commands = parse_script(rt.alloc(), text);
-    assert!(rt; commands.is_ok_and(|commands| commands.len() == 22));
+    assert!(rt; commands.is_ok_and(|commands| commands.len() == 24));
 }
 
 #[test]
@@ -40,7 +40,7 @@ fn reads_no_commands(rt: HostRuntime) {
 
 #[test]
 fn names_the_first_fault(rt: HostRuntime) {
-    let rows: [(&str, usize, Option<What>); 40] = [
+    let rows: [(&str, usize, Option<What>); 42] = [
         ("# x", 1, None),
         (" \n", 1, None),
         (" # x\n", 1, None),
@@ -89,6 +89,8 @@ fn names_the_first_fault(rt: HostRuntime) {
         ("census c 4097 65536\n", 1, Some(What::Turns)),
         ("desub n c 65536 p\n", 1, Some(What::Number)),
         ("draw p lines\n", 1, None),
+        ("upgrade d c 1\n", 1, None),
+        ("lighten d c 18446744073709551616\n", 1, Some(What::Number)),
     ];
     for (text, line, what) in rows {
         let want = match what {

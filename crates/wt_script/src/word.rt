@@ -139,6 +139,22 @@ pub enum Word {
         /// The bytes of the n lines, each with its newline, whatever they hold.
         lines: Seq<u8>,
     },
+    /// `upgrade N C`: the same chain in version two.
+    Upgrade {
+        /// The name that is bound.
+        name: Seq<u8>,
+        /// The chain.
+        chain: Seq<u8>,
+    },
+    /// `lighten N C B`: the light chain of a chain.
+    Lighten {
+        /// The name that is bound.
+        name: Seq<u8>,
+        /// The chain.
+        chain: Seq<u8>,
+        /// The trials that each search of a window may take, and the nodes that each tree may have.
+        budget: u64,
+    },
     /// `expand N C w h`: a pattern over a looped chain.
     Expand {
         /// The name that is bound.
