@@ -14,3 +14,4 @@ pub mod Binding
 pub mod Lifted
 pub mod Behind
 pub mod Counted
+pub mod Lightened

@@ -24,6 +24,8 @@ pub mod Same
 pub mod Levels
 pub mod Search
 pub mod Derive
+pub mod Upgrade
+pub mod Lighten
 pub mod Primitive
 pub mod Seeds
 pub mod Census

@@ -1,7 +1,7 @@
 -- The meaning of a command: what it answers, and what its name is bound to.
 use Rattle.std.specs.Prelude.{◌≡◌, ℕ, ◌+◌, List, ◌++◌, length, nat_lt, if◌then◌else◌, codes}
 use Rattle.wt_script.specs.declared.word.Word.{Word}
-use Rattle.wt_script.specs.declared.word.Word.TheVariants.{Tiles, Pattern, Valid, Period, Dominoes, Surround, Markers, Fuse, Same, Derive, Search, Cert, Check, Expand, Image, Desub, Bound, Primitive, Seeds, Census, Draw, Json}
+use Rattle.wt_script.specs.declared.word.Word.TheVariants.{Tiles, Pattern, Valid, Period, Dominoes, Surround, Markers, Fuse, Same, Derive, Search, Cert, Check, Upgrade, Lighten, Expand, Image, Desub, Bound, Primitive, Seeds, Census, Draw, Json}
 use Rattle.wt_session.specs.declared.limits.TheConstants.{MAX_TEXT}
 use Rattle.wt_session.specs.Names.{Names, bind, is_crowded}
 use Rattle.wt_session.specs.Tiles.{IsTilesReply}
@@ -23,6 +23,8 @@ use Rattle.wt_session.specs.Markers.{IsMarkersReply}
 use Rattle.wt_session.specs.Same.{same_reply}
 use Rattle.wt_session.specs.Search.{IsSearchReply}
 use Rattle.wt_session.specs.Derive.{IsDeriveReply}
+use Rattle.wt_session.specs.Upgrade.{upgrade_reply}
+use Rattle.wt_session.specs.Lighten.{IsLightenReply}
 use Rattle.wt_session.specs.Primitive.{IsPrimitiveReply}
 use Rattle.wt_session.specs.Seeds.{seeds_reply}
 use Rattle.wt_session.specs.Census.{IsCensusReply}
@@ -37,6 +39,8 @@ IsReply names (Period p dx dy) reply = reply ≡ period_reply names p dx dy
 IsReply names (Fuse s axis u v) reply = reply ≡ fuse_reply names s axis u v
 IsReply names (Cert c) reply = reply ≡ cert_reply names c
 IsReply names (Check n bytes) reply = reply ≡ check_reply n bytes
+IsReply names (Upgrade n c) reply = reply ≡ upgrade_reply names n c
+IsReply names (Lighten n c b) reply = IsLightenReply names n c b reply
 IsReply names (Expand n c w h) reply = reply ≡ expand_reply names n c w h
 IsReply names (Image c t) reply = reply ≡ image_reply names c t
 IsReply names (Desub n c k p) reply = IsDesubReply names n c k p reply

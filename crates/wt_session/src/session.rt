@@ -23,6 +23,7 @@ use crate::words::expand::expand;
 use crate::words::fuse::fuse;
 use crate::words::image::image;
 use crate::words::json::json;
+use crate::words::lighten::lighten;
 use crate::words::markers::markers;
 use crate::words::pattern::pattern;
 use crate::words::period::period;
@@ -32,6 +33,7 @@ use crate::words::search::search;
 use crate::words::seeds::seeds;
 use crate::words::surround::surround;
 use crate::words::tiles::tiles;
+use crate::words::upgrade::upgrade;
 use crate::words::valid::valid;
 use std::alloc::{AllocError, Global};
 use std::marker::Model;
@@ -88,6 +90,12 @@ impl Session {
             Word::Valid { pattern } => valid(alloc, names, pattern.as_slice()),
             Word::Period { pattern, dx, dy } => period(alloc, names, pattern.as_slice(), *dx, *dy),
             Word::Check { name, lines } => check(alloc, name, lines.as_slice()),
+            Word::Upgrade { name, chain } => upgrade(alloc, names, name, chain.as_slice()),
+            Word::Lighten {
+                name,
+                chain,
+                budget,
+            } => lighten(alloc, names, name, chain.as_slice(), *budget),
             Word::Cert { chain } => cert(alloc, names, chain.as_slice()),
             Word::Expand {
                 name,
