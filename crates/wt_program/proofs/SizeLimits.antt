@@ -1,40 +1,40 @@
--- Words that are limits of sizes and budgets, by the numbers that they spell.
-use Rattle.std.proofs.Common.{arith, ◌≡◌, ◌≤◌, ◌<◌, ◌^◌, ℕ, Bool, true, false, List, refl, sym, ap, ◌∙◌}
-use Rattle.std.specs.Prelude.{◌&&◌, nat_le, nat_lt, if◌then◌else◌, Option, None, Some, Result, Ok, Err}
+-- Words that are numbers up to a limit, and budgets, by the numbers that they spell.
+use Rattle.std.proofs.Common.{arith, ◌≡◌, ◌≤◌, ◌<◌, ◌^◌, ℕ, Bool, true, false, List, refl, ap, ◌∙◌}
+use Rattle.std.specs.Prelude.{◌&&◌, nat_le, nat_lt, if◌then◌else◌, None, Some, Ok, Err}
 use Rattle.std.proofs.lemmas.Bool.{and_parts, leb-true, ltb-true}
 use Rattle.std.proofs.lemmas.Bool.Decides.{nat_tests}
 use Rattle.wt_text.specs.Words.{is_decimal, value_from, number}
 use Rattle.wt_io.specs.Numbers.{in_u64}
 use Rattle.wt_io.specs.declared.numbers.NumberFault.{NumberFault}
 use Rattle.wt_io.specs.declared.numbers.NumberFault.TheVariants.{TooLarge}
-use Rattle.wt_program.specs.Numbers.{is_size_limit, is_budget}
+use Rattle.wt_program.specs.Numbers.{is_up_to, is_budget}
 
-past : (v k : ℕ) → nat_lt v k ≡ false → 65 ≤ k → nat_le v 64 ≡ false
-past v k e le = grind (arith, nat_tests, e, le)
+past : (v k most : ℕ) → nat_lt v k ≡ false → most < k → nat_le v most ≡ false
+past v k most e le = grind (arith, nat_tests, e, le)
 
 and_no : (b : Bool) → b && false ≡ false
 and_no true = refl
 and_no false = refl
 
-pub limit_of : (w : List ℕ) (n : ℕ) → in_u64 (number w) ≡ Ok n → is_size_limit w ≡ (nat_le 1 n && nat_le n 64)
-limit_of w n e = go (is_decimal w) (value_from 0 w) e
+pub limit_of : (most : ℕ) (w : List ℕ) (n : ℕ) → in_u64 (number w) ≡ Ok n → is_up_to most w ≡ (nat_le 1 n && nat_le n most)
+limit_of most w n e = go (is_decimal w) (value_from 0 w) e
   where
-    by : (t : Bool) (v : ℕ) → (if t then Ok v else Err TooLarge) ≡ Ok n → (nat_le 1 v && nat_le v 64) ≡ (nat_le 1 n && nat_le n 64)
-    by true v e = let same : v ≡ n = cc in ap (λ (k : ℕ). nat_le 1 k && nat_le k 64) same
+    by : (t : Bool) (v : ℕ) → (if t then Ok v else Err TooLarge) ≡ Ok n → (nat_le 1 v && nat_le v most) ≡ (nat_le 1 n && nat_le n most)
+    by true v e = let same : v ≡ n = cc in ap (λ (k : ℕ). nat_le 1 k && nat_le k most) same
     by false v e = absurd cc
 
-    go : (b : Bool) (v : ℕ) → in_u64 (if b then Some v else None) ≡ Ok n → (b && (nat_le 1 v && nat_le v 64)) ≡ (nat_le 1 n && nat_le n 64)
+    go : (b : Bool) (v : ℕ) → in_u64 (if b then Some v else None) ≡ Ok n → (b && (nat_le 1 v && nat_le v most)) ≡ (nat_le 1 n && nat_le n most)
     go true v e = by (nat_lt v (2 ^ 64)) v e
     go false v e = absurd cc
 
-pub no_limit : (w : List ℕ) (f : NumberFault) → in_u64 (number w) ≡ Err f → is_size_limit w ≡ false
-no_limit w f e = go (is_decimal w) (value_from 0 w) e
+pub no_limit : (most : ℕ) (w : List ℕ) (f : NumberFault) → most < 2 ^ 64 → in_u64 (number w) ≡ Err f → is_up_to most w ≡ false
+no_limit most w f le e = go (is_decimal w) (value_from 0 w) e
   where
-    by : (t : Bool) (v : ℕ) → nat_lt v (2 ^ 64) ≡ t → (if t then Ok v else Err TooLarge) ≡ Err f → (nat_le 1 v && nat_le v 64) ≡ false
+    by : (t : Bool) (v : ℕ) → nat_lt v (2 ^ 64) ≡ t → (if t then Ok v else Err TooLarge) ≡ Err f → (nat_le 1 v && nat_le v most) ≡ false
     by true v h e = absurd cc
-    by false v h e = ap (λ (b : Bool). nat_le 1 v && b) (past v (2 ^ 64) h (omega arith)) ∙ and_no (nat_le 1 v)
+    by false v h e = ap (λ (b : Bool). nat_le 1 v && b) (past v (2 ^ 64) most h le) ∙ and_no (nat_le 1 v)
 
-    go : (b : Bool) (v : ℕ) → in_u64 (if b then Some v else None) ≡ Err f → (b && (nat_le 1 v && nat_le v 64)) ≡ false
+    go : (b : Bool) (v : ℕ) → in_u64 (if b then Some v else None) ≡ Err f → (b && (nat_le 1 v && nat_le v most)) ≡ false
     go true v e = by (nat_lt v (2 ^ 64)) v refl e
     go false v e = refl
 
@@ -60,7 +60,7 @@ no_budget w f e = go (is_decimal w) (value_from 0 w) e
     go true v e = by (nat_lt v (2 ^ 64)) v e
     go false v e = refl
 
-pub limit_within : (t : List ℕ) → is_size_limit t ≡ true → (is_decimal t ≡ true) × (1 ≤ value_from 0 t) × (value_from 0 t ≤ 64)
+pub limit_within : (t : List ℕ) → is_up_to 64 t ≡ true → (is_decimal t ≡ true) × (1 ≤ value_from 0 t) × (value_from 0 t ≤ 64)
 limit_within t e =
     let all = and_parts (is_decimal t) (nat_le 1 (value_from 0 t) && nat_le (value_from 0 t) 64) e in
     let ends = and_parts (nat_le 1 (value_from 0 t)) (nat_le (value_from 0 t) 64) all.1 in

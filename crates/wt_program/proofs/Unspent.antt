@@ -1,10 +1,10 @@
 -- No reply of a command without a budget tells that a budget was spent.
-use Rattle.std.proofs.Common.{◌≡◌, ◌≢◌, ◌^◌, ℕ, List, length, slice_get, sym, subst}
+use Rattle.std.proofs.Common.{◌≡◌, ◌≢◌, ◌^◌, ℕ, List, length, slice_get, sym, subst, inl, inr}
 use Rattle.std.specs.Prelude.{ℤ, Option, None, Some, Result, Ok, Err, codes, nat_lt, Bool, true, false, if◌then◌else◌}
 use Rattle.wt_line.specs.declared.faults.What.{What}
 use Rattle.wt_text.specs.Words.{value_from}
-use Rattle.wt_text.specs.Lines.{bytes_of}
-use Rattle.wt_text.specs.Readers.{TextFault, syntax_at, limit_at}
+use Rattle.wt_text.specs.Lines.{lines, bytes_of}
+use Rattle.wt_text.specs.Readers.{TextFault, syntax_at, limit_at, whole_text}
 use Rattle.wt_grid.specs.Grid.{Grid}
 use Rattle.wt_pattern.specs.PatternRows.{pattern_lines}
 use Rattle.wt_pattern.specs.Validity.{first_stranger}
@@ -25,13 +25,26 @@ use Rattle.wt_scale.specs.declared.size.SizeFault.TheVariants as why
 use Rattle.wt_program.specs.declared.reply.Reply.{Reply}
 use Rattle.wt_program.specs.declared.reply.Reply.TheVariants.{Answered, Limit}
 use Rattle.wt_line.specs.Signed.{signed_value}
-use Rattle.wt_program.specs.Commands.{Command, check, run, desub, bound, expand, periodic, has_budget}
+use Rattle.wt_program.specs.Commands.{Command, check, run, desub, bound, expand, periodic, strip, strip_check, has_budget}
 use Rattle.wt_program.specs.Replies.{said}
 use Rattle.wt_program.specs.Faults.{fault_reply}
 use Rattle.wt_program.specs.Checks.{chain_of, judged_by, accepted_read, reply_or, report_reply}
 use Rattle.wt_program.specs.Bounds.{size_reply, vector_reply, bounded}
 use Rattle.wt_program.specs.Expands.{pick_reply, expanded}
 use Rattle.wt_program.specs.Desubs.{chain_and_pattern, IsTakenReply, IsTilesReply, IsStepReply, IsChainReply, IsReadReply}
+use Rattle.wt_tile.specs.declared.tile.Tile.{Tile}
+use Rattle.wt_tile.specs.declared.tile.TileList.{TileList}
+use Rattle.wt_tile.specs.declared.tile.SetFault.{SetFault}
+use Rattle.wt_tile.specs.declared.tile.SetFault.TheVariants.{Empty, TooMany, NoColour, Names, Repeated}
+use Rattle.wt_tile.specs.Sets.{set_fault}
+use Rattle.wt_strip.specs.declared.layers.Layers.{Layers}
+use Rattle.wt_strip.specs.declared.making.Stripped.{Stripped}
+use Rattle.wt_strip.specs.declared.making.Stripped.TheVariants as made
+use Rattle.wt_strip.specs.declared.making.StripEnd.{StripEnd}
+use Rattle.wt_strip.specs.declared.making.StripEnd.TheVariants as end
+use Rattle.wt_program.specs.SetTexts.{set_part, IsListReply, IsSetReply}
+use Rattle.wt_program.specs.Strips.{IsToldStrip, IsLayersReply}
+use Rattle.wt_program.specs.StripChecks.{set_and_layers, IsLayersVerdict, IsReadLayersReply}
 use Rattle.wt_program.specs.Answers.{IsReply}
 
 unspent_fault : (fault : TextFault What) → (said (fault_reply fault)).status ≢ 6
@@ -97,6 +110,35 @@ unspent_both : (step : List ℕ) (r : Result (RawChain × Grid) (TextFault What)
 unspent_both step (Ok x) reply is = unspent_chain step x.1 x.0 (chain_fault x.0) reply is
 unspent_both step (Err fault) reply is = said_as reply _ is (unspent_fault fault)
 
+unspent_list : (answers : List Tile → Reply → Type 0) → ((ts : List Tile) (reply : Reply) → answers ts reply → (said reply).status ≢ 6) → (list : TileList) (f : Option SetFault) (reply : Reply) → IsListReply answers list f reply → (said reply).status ≢ 6
+unspent_list answers never list None reply is = never list.tiles reply is
+unspent_list answers never list (Some Empty) reply is = said_as reply _ is (λ e. cc)
+unspent_list answers never list (Some (Repeated i j)) reply is = said_as reply _ is (λ e. cc)
+unspent_list answers never list (Some TooMany) reply is = absurd is
+unspent_list answers never list (Some (NoColour tile)) reply is = absurd is
+unspent_list answers never list (Some (Names axis)) reply is = absurd is
+
+unspent_set : (answers : List Tile → Reply → Type 0) → ((ts : List Tile) (reply : Reply) → answers ts reply → (said reply).status ≢ 6) → (r : Result TileList (TextFault What)) (reply : Reply) → IsSetReply answers r reply → (said reply).status ≢ 6
+unspent_set answers never (Ok list) reply is = unspent_list answers never list (set_fault list) reply is
+unspent_set answers never (Err fault) reply is = said_as reply _ is (unspent_fault fault)
+
+unspent_told : (answer : Result Stripped StripEnd) (reply : Reply) → IsToldStrip answer reply → (said reply).status ≢ 6
+unspent_told (Ok (made.Empty l)) reply is = said_as reply _ is (λ e. cc)
+unspent_told (Ok (made.Filled g)) reply is = said_as reply _ is (λ e. cc)
+unspent_told (Err (end.TooManyRows layer)) reply is = said_as reply _ is (λ e. cc)
+unspent_told (Err end.OutOfMemory) reply is = absurd is
+
+unspent_layers : (w h : ℕ) (ts : List Tile) (reply : Reply) → IsLayersReply w h ts reply → (said reply).status ≢ 6
+unspent_layers w h ts reply is = unspent_told is.0 reply is.2
+
+unspent_verdict : (l : Layers) (ts : List Tile) (reply : Reply) → IsLayersVerdict l ts reply → (said reply).status ≢ 6
+unspent_verdict l ts reply (inl exact) = said_as reply _ exact.1 (λ e. cc)
+unspent_verdict l ts reply (inr faulty) = said_as reply _ faulty.2 (λ e. cc)
+
+unspent_read_layers : (r : Result (TileList × Layers) (TextFault What)) (reply : Reply) → IsReadLayersReply r reply → (said reply).status ≢ 6
+unspent_read_layers (Ok x) reply is = unspent_list (IsLayersVerdict x.1) (unspent_verdict x.1) x.0 (set_fault x.0) reply is
+unspent_read_layers (Err fault) reply is = said_as reply _ is (unspent_fault fault)
+
 pub unspent : (c : Command) (bytes : List ℕ) (reply : Reply) → has_budget c ≡ false → IsReply c bytes reply → (said reply).status ≢ 6
 unspent check bytes reply none is = said_as reply _ is (unspent_read report_reply (λ c e. cc) (chain_of bytes))
 unspent run bytes reply none is = absurd cc
@@ -104,3 +146,5 @@ unspent (desub step) bytes reply none is = unspent_both step (chain_and_pattern 
 unspent (bound x y) bytes reply none is = said_as reply _ is (unspent_read (bounded (signed_value x) (signed_value y)) (λ c. unspent_bound (signed_value x) (signed_value y) c c.end) (chain_of bytes))
 unspent (expand w h) bytes reply none is = said_as reply _ is (unspent_read (expanded (value_from 0 w) (value_from 0 h)) (λ c. unspent_pick (value_from 0 w) (value_from 0 h) c c.end) (chain_of bytes))
 unspent (periodic n b) bytes reply none is = absurd cc
+unspent (strip w h) bytes reply none is = unspent_set (IsLayersReply (value_from 0 w) (value_from 0 h)) (unspent_layers (value_from 0 w) (value_from 0 h)) (whole_text set_part (lines bytes)) reply is
+unspent strip_check bytes reply none is = unspent_read_layers (set_and_layers bytes) reply is
