@@ -57,7 +57,7 @@ before_by (suc x) (a ∷ p) (b ∷ q) lp lq agree lt =
     ap (λ (o : Ordering). ordering_then o (slice_cmp nat_cmp p q)) (sym (nat_cmp_is a b Equal (agree 0 (omega arith))))
     ∙ before_by x p q (omega arith) (omega arith) (λ k lk. agree (suc k) (omega arith)) lt
 
-module _ (ts : List Tile) (allowed : List (List Bool)) (w : ℕ) (wide : 1 ≤ w) where
+module _ (ts : List Tile) (allowed : List (List ℕ)) (w : ℕ) (wide : 1 ≤ w) where
   -- nothing is gathered yet
   pub begin : (x : ℕ) (start old : List ℕ) → length old ≡ rows_in w old * w → AreGathered ts allowed w x 0 start old old
   begin x start old whole = record {
@@ -217,7 +217,7 @@ module _ (ts : List Tile) (allowed : List (List Bool)) (w : ℕ) (wide : 1 ≤ w
       let m = le-mul_of_pos_right {m = w} (rows_in w []) wide in
       omega (arith, d, m)
 
-  pub lists_of : (more : List (List Bool)) (start new : List ℕ) → ((q : List ℕ) → IsWay ts allowed w q → IsWay ts more w q) → ((q : List ℕ) → IsWay ts more w q → IsWay ts allowed w q)
+  pub lists_of : (more : List (List ℕ)) (start new : List ℕ) → ((q : List ℕ) → IsWay ts allowed w q → IsWay ts more w q) → ((q : List ℕ) → IsWay ts more w q → IsWay ts allowed w q)
       → AreGathered ts allowed w 0 (length ts) start [] new → HasAllGathered ts allowed w 0 (length ts) start [] new
       → IsListOf (λ q. (length q ≡ w) × IsWay ts more w q) w new
   lists_of more start new there back g all = record {
@@ -232,7 +232,7 @@ module _ (ts : List Tile) (allowed : List (List Bool)) (w : ℕ) (wide : 1 ≤ w
       low : (r : ℕ) → rows_in w [] ≤ r
       low r = let n = none_yet in omega (arith, n)
 
-  pub lists_from : (more : List (List Bool)) (start old new : List ℕ) → old ≡ [] → ((q : List ℕ) → IsWay ts allowed w q → IsWay ts more w q) → ((q : List ℕ) → IsWay ts more w q → IsWay ts allowed w q)
+  pub lists_from : (more : List (List ℕ)) (start old new : List ℕ) → old ≡ [] → ((q : List ℕ) → IsWay ts allowed w q → IsWay ts more w q) → ((q : List ℕ) → IsWay ts more w q → IsWay ts allowed w q)
       → AreGathered ts allowed w 0 (length ts) start old new → HasAllGathered ts allowed w 0 (length ts) start old new
       → IsListOf (λ q. (length q ≡ w) × IsWay ts more w q) w new
   lists_from more start old new e there back g all =
@@ -244,7 +244,7 @@ module _ (ts : List Tile) (allowed : List (List Bool)) (w : ℕ) (wide : 1 ≤ w
       let h = subst (λ (cells : List ℕ). AreGathered ts allowed w 0 (length ts) start cells new) e g in
       record { whole = h.whole; ascending = λ r lt. h.ascending r (let n = none_yet in omega (arith, n)) lt }
 
-  pub right_from : (more : List (List Bool)) (start old new : List ℕ) → old ≡ [] → ((q : List ℕ) → IsWay ts allowed w q → IsWay ts more w q) → AreGathered ts allowed w 0 (length ts) start old new
+  pub right_from : (more : List (List ℕ)) (start old new : List ℕ) → old ≡ [] → ((q : List ℕ) → IsWay ts allowed w q → IsWay ts more w q) → AreGathered ts allowed w 0 (length ts) start old new
       → (r : ℕ) → r < rows_in w new → (length (row_at w new r) ≡ w) × IsWay ts more w (row_at w new r)
   right_from more start old new e there g = λ r lt.
       let h = subst (λ (cells : List ℕ). AreGathered ts allowed w 0 (length ts) start cells new) e g in

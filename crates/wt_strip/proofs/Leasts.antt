@@ -25,7 +25,7 @@ use Rattle.wt_strip.proofs.Gathers.{one_row, old_row, new_row, none_yet}
 use Rattle.wt_strip.proofs.Strips.{cell_in}
 
 -- the rows of w columns that their columns allow
-abbrev pub IsWhole : List Tile → List (List Bool) → ℕ → List ℕ → Type 0
+abbrev pub IsWhole : List Tile → List (List ℕ) → ℕ → List ℕ → Type 0
 IsWhole ts allowed w q = (length q ≡ w) × IsWay ts allowed w q
 
 pub cut_first : (w : ℕ) (row q : List ℕ) → IsNotBehind w row q → IsNotBehind w (take w row) q
@@ -38,13 +38,13 @@ cut_first w row q (inr h) =
 
 module _ (ts : List Tile) (w y : ℕ) where
   -- row 0 may be any valid row
-  pub same_start : (p : List ℕ) (allowed : List (List Bool)) → y ≡ 0 → length ts ≤ 256 → w ≤ 64 → ((x t : ℕ) → x < 64 → t < 256 → is_allowed allowed x t ≡ true)
+  pub same_start : (p : List ℕ) (allowed : List (List ℕ)) → y ≡ 0 → w ≤ 64 → ((x t : ℕ) → x < 64 → t < length ts → is_allowed allowed x t ≡ true)
       → AreSame (IsWhole ts allowed w) (IsNextRow ts w y p)
-  same_start p allowed e few narrow table =
-      subst (λ (k : ℕ). AreSame (IsWhole ts allowed w) (IsNextRow ts w k p)) (sym e) (all_rows ts w allowed few narrow table)
+  same_start p allowed e narrow table =
+      subst (λ (k : ℕ). AreSame (IsWhole ts allowed w) (IsNextRow ts w k p)) (sym e) (all_rows ts w allowed narrow table)
 
   -- a later row lies upon the one before
-  pub same_next : (p : List ℕ) (allowed : List (List Bool)) → (y ≡ 0 → ⊥) → length p ≡ w → IsTableOf ts p allowed
+  pub same_next : (p : List ℕ) (allowed : List (List ℕ)) → (y ≡ 0 → ⊥) → length p ≡ w → IsTableOf ts p allowed
       → AreSame (IsWhole ts allowed w) (IsNextRow ts w y p)
   same_next p allowed some long table = go y some
     where

@@ -1,6 +1,7 @@
 pub mod Cells
 pub mod Towers
 pub mod Faults
+pub mod Skips
 pub mod Walked
 pub mod Uponed
 pub mod Gathers

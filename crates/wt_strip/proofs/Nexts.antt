@@ -11,12 +11,12 @@ use Rattle.wt_strip.proofs.Uponed.{IsTableOf, table_of}
 use Rattle.wt_strip.proofs.Faults.{AreSame, lists_same}
 
 module _ (ts : List Tile) (w : ℕ) (below : List ℕ) where
-  one_there : (r : ℕ) (row : List ℕ) (allowed : List (List Bool)) → row ≡ row_at w below r → length row ≡ w → IsTableOf ts row allowed
+  one_there : (r : ℕ) (row : List ℕ) (allowed : List (List ℕ)) → row ≡ row_at w below r → length row ≡ w → IsTableOf ts row allowed
       → (q : List ℕ) → (length q ≡ w) × IsWay ts allowed w q → IsUponSome ts w below r (r + 1) q
   one_there r row allowed e long table q h =
       (row_of_way ts allowed w q h.0 h.1, (r, omega arith, omega arith, under_of_way ts allowed w (row_at w below r) q (table_of ts w (row_at w below r) row allowed e long table) h.1))
 
-  one_back : (r : ℕ) (row : List ℕ) (allowed : List (List Bool)) → row ≡ row_at w below r → length row ≡ w → IsTableOf ts row allowed
+  one_back : (r : ℕ) (row : List ℕ) (allowed : List (List ℕ)) → row ≡ row_at w below r → length row ≡ w → IsTableOf ts row allowed
       → (q : List ℕ) → IsUponSome ts w below r (r + 1) q → (length q ≡ w) × IsWay ts allowed w q
   one_back r row allowed e long table q h =
       let le = h.1.1 in
@@ -24,7 +24,7 @@ module _ (ts : List Tile) (w : ℕ) (below : List ℕ) where
       let s : h.1.0 ≡ r = omega (arith, le, lt) in
       (h.0.long, way_upon ts allowed w (row_at w below r) q (table_of ts w (row_at w below r) row allowed e long table) h.0 (subst (λ (k : ℕ). IsUnder ts w (row_at w below k) q) s h.1.3))
 
-  pub layer_one : (r : ℕ) (row cells : List ℕ) (allowed : List (List Bool)) → row ≡ row_at w below r → length row ≡ w → IsTableOf ts row allowed
+  pub layer_one : (r : ℕ) (row cells : List ℕ) (allowed : List (List ℕ)) → row ≡ row_at w below r → length row ≡ w → IsTableOf ts row allowed
       → IsSorted w cells → IsListOf (λ q. (length q ≡ w) × IsWay ts allowed w q) w cells → IsLayer (IsUponSome ts w below r (r + 1)) w cells
   layer_one r row cells allowed e long table s h = record {
     sorted = s;
@@ -32,7 +32,7 @@ module _ (ts : List Tile) (w : ℕ) (below : List ℕ) where
         (record { there = one_there r row allowed e long table; back = one_back r row allowed e long table }) h;
   }
 
-  pub more_one : (r room : ℕ) (row cells : List ℕ) (allowed : List (List Bool)) → row ≡ row_at w below r → length row ≡ w → IsTableOf ts row allowed
+  pub more_one : (r room : ℕ) (row cells : List ℕ) (allowed : List (List ℕ)) → row ≡ row_at w below r → length row ≡ w → IsTableOf ts row allowed
       → IsSorted w cells → ((k : ℕ) → k < rows_in w cells → (length (row_at w cells k) ≡ w) × IsWay ts allowed w (row_at w cells k)) → room < rows_in w cells
       → HasMore (IsUponSome ts w below r (r + 1)) w room
   more_one r room row cells allowed e long table s h more = (cells, s, (λ k lt. one_there r row allowed e long table (row_at w cells k) (h k lt)), more)
@@ -89,9 +89,9 @@ upon_all ts w below = record {
   back = λ q h. (h.0, (h.1.0, omega arith, h.1.1, h.1.2));
 }
 
-pub all_rows : (ts : List Tile) (w : ℕ) (allowed : List (List Bool)) → length ts ≤ 256 → w ≤ 64 → ((x t : ℕ) → x < 64 → t < 256 → is_allowed allowed x t ≡ true)
+pub all_rows : (ts : List Tile) (w : ℕ) (allowed : List (List ℕ)) → w ≤ 64 → ((x t : ℕ) → x < 64 → t < length ts → is_allowed allowed x t ≡ true)
     → AreSame (λ q. (length q ≡ w) × IsWay ts allowed w q) (IsRow ts w)
-all_rows ts w allowed few narrow table = record {
+all_rows ts w allowed narrow table = record {
   there = λ q h. row_of_way ts allowed w q h.0 h.1;
-  back = λ q h. (h.long, way_of_row ts allowed w q (λ x t lx lt. table x t (omega (arith, lx, narrow)) (omega (arith, lt, few))) h);
+  back = λ q h. (h.long, way_of_row ts allowed w q (λ x t lx lt. table x t (omega (arith, lx, narrow)) lt) h);
 }

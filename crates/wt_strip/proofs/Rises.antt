@@ -155,7 +155,7 @@ layer_under ts w m k made layer item f lt e same at =
     let here : layer ≡ slice_index_or made k [] = same ∙ at ∙ any_default made k item kl in
     subst (λ (i : ℕ). IsLayer (IsInLayer ts w i) w layer) n (subst (λ (cs : List ℕ). IsLayer (IsInLayer ts w k) w cs) (sym here) (f.layers k kl))
 
-module _ (ts : List Tile) (w h m : ℕ) (lt : suc m < h) (above p : List ℕ) (allowed : List (List Bool)) (s : AreStuckUnder ts w h m above) (long : length p ≡ w) (table : IsTableOf ts p allowed) where
+module _ (ts : List Tile) (w h m : ℕ) (lt : suc m < h) (above p : List ℕ) (allowed : List (List ℕ)) (s : AreStuckUnder ts w h m above) (long : length p ≡ w) (table : IsTableOf ts p allowed) where
   pub rises_under : IsInLayer ts w (h - suc (suc m)) p → ((q : List ℕ) × (length q ≡ w) × IsWay ts allowed w q × (IsListed w above q → ⊥)) → CanRise ts w (suc m) p
   rises_under inside f =
       let e : h - suc m ≡ suc (h - suc (suc m)) = omega (arith, lt) in

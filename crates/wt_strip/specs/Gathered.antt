@@ -5,7 +5,7 @@ use Rattle.wt_strip.specs.Listed.{rows_in, row_at, is_before}
 use Rattle.wt_strip.specs.Walks.{IsWay, AreAlike}
 
 -- Behind the old rows stand others, in ascending order: rows that their columns allow, that agree with a row in the first x columns, and whose tile in column x is below t.
-pub record AreGathered (ts : List Tile) (allowed : List (List Bool)) (w x t : ℕ) (start old new : List ℕ) : Type 0 where
+pub record AreGathered (ts : List Tile) (allowed : List (List ℕ)) (w x t : ℕ) (start old new : List ℕ) : Type 0 where
   pub whole : length new ≡ rows_in w new * w
   pub longer : rows_in w old ≤ rows_in w new
   pub kept : (r : ℕ) → r < rows_in w old → row_at w new r ≡ row_at w old r
@@ -15,7 +15,7 @@ pub record AreGathered (ts : List Tile) (allowed : List (List Bool)) (w x t : �
   pub ascending : (r : ℕ) → rows_in w old ≤ r → suc r < rows_in w new → is_before (row_at w new r) (row_at w new (suc r)) ≡ true
 
 -- none of those rows is left out
-abbrev pub HasAllGathered : List Tile → List (List Bool) → ℕ → ℕ → ℕ → List ℕ → List ℕ → List ℕ → Type 0
+abbrev pub HasAllGathered : List Tile → List (List ℕ) → ℕ → ℕ → ℕ → List ℕ → List ℕ → List ℕ → Type 0
 HasAllGathered ts allowed w x t start old new =
     (q : List ℕ) → length q ≡ w → IsWay ts allowed w q → AreAlike x q start → slice_index q x < t
     → (r : ℕ) × (rows_in w old ≤ r) × (r < rows_in w new) × (row_at w new r ≡ q)

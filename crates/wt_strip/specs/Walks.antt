@@ -1,23 +1,30 @@
 -- Scaffolding: rows that are filled column by column, with the tiles that each column allows.
-use Rattle.std.specs.Prelude.{◌≡◌, ◌⊎◌, ℕ, suc, ◌<◌, ◌≤◌, List, [], length, slice_index, slice_index_or, Bool, true, false}
+use Rattle.std.specs.Prelude.{◌≡◌, ◌⊎◌, ℕ, suc, ◌<◌, ◌≤◌, List, length, slice_index, nat_eq, Bool, true}
 use Rattle.wt_tile.specs.declared.tile.Tile.{Tile}
 use Rattle.wt_grid.specs.declared.axis.Axis.TheVariants.{One}
 use Rattle.wt_tile.specs.Matching.{matches}
+use Rattle.wt_lane.specs.Masks.{mask_bit}
+use Rattle.wt_mask.specs.Masks.{mask_at}
 
--- a column allows tile t
-abbrev pub column_allows : List Bool → ℕ → Bool
-column_allows column t = slice_index_or column t false
+-- the mask of a column allows tile t
+abbrev pub column_allows : List ℕ → ℕ → Bool
+column_allows column t = nat_eq (mask_bit column t) 1
 
 -- column x allows tile t
-abbrev pub is_allowed : List (List Bool) → ℕ → ℕ → Bool
-is_allowed allowed x t = column_allows (slice_index_or allowed x []) t
+abbrev pub is_allowed : List (List ℕ) → ℕ → ℕ → Bool
+is_allowed allowed x t = column_allows (mask_at allowed x) t
 
 -- the first n cells are tiles that match from left to right, each allowed in its column
-pub record IsWay (ts : List Tile) (allowed : List (List Bool)) (n : ℕ) (q : List ℕ) : Type 0 where
+pub record IsWay (ts : List Tile) (allowed : List (List ℕ)) (n : ℕ) (q : List ℕ) : Type 0 where
   pub long : n ≤ length q
   pub tiles : (x : ℕ) → x < n → slice_index q x < length ts
   pub across : (x : ℕ) → suc x < n → matches ts One (slice_index q x) (slice_index q (suc x)) ≡ true
   pub stands : (x : ℕ) → x < n → is_allowed allowed x (slice_index q x) ≡ true
+
+-- columns that allow fewer tiles, and yet each way
+pub record IsPruned (ts : List Tile) (allowed : List (List ℕ)) (w : ℕ) (left : List (List ℕ)) : Type 0 where
+  pub fewer : (x t : ℕ) → is_allowed left x t ≡ true → is_allowed allowed x t ≡ true
+  pub kept : (q : List ℕ) → IsWay ts allowed w q → IsWay ts left w q
 
 -- two rows agree in the first n columns
 abbrev pub AreAlike : ℕ → List ℕ → List ℕ → Type 0

@@ -10,11 +10,11 @@ ghost use Rattle.wt_strip.specs.Listed.{rows_in, row_at, IsAscending, IsListed, 
 ghost use Rattle.wt_strip.specs.Exact.{IsStranger, HasMissing, IsLayerFault, IsExact, IsStripFault};
 
 use crate::limits::{MAX_COLUMNS, MAX_LAYERS};
-use crate::rows::{drop_in, row};
+use crate::rows::{drop_in, past_alike, row};
 use crate::shape::is_shaped;
 use crate::walk::{all_allowed, allowed_upon, misses};
 use crate::{Layers, StripFault};
-use wt_grid::MAX_TILES;
+use wt_mask::Sides;
 use wt_tile::{Axis, SetRef, Tile, is_match};
 
 /// Whether a row's tiles match from left to right.
@@ -30,30 +30,34 @@ fn is_across(tiles: &[Tile], q: &[u16]) -> bool
     true
 }
 
-/// Whether a row can lie below another of its length.
-fn is_under(tiles: &[Tile], p: &[u16], q: &[u16]) -> bool
+/// The first column in which a row doesn't match one above it, of its length.
+fn clash(tiles: &[Tile], p: &[u16], q: &[u16]) -> Option<usize>
     requires { length p.now ≡ length q.now }
-    ensures under { result ≡ true → IsUnder tiles.now (length q.now) p.now q.now }
-    ensures fault { result ≡ false → IsUnder tiles.now (length q.now) p.now q.now → ⊥ }
+    ensures { MatchOption result (IsUnder tiles.now (length q.now) p.now q.now)
+        (λ x. (x < length q.now) × (matches tiles.now Axis.Two (slice_index p.now x) (slice_index q.now x) ≡ false)) }
 {
     for x in 0..q.len() {
         if !is_match(tiles, Axis::Two, p[x], q[x]) {
-            return false;
+            return Some(x);
         }
     }
-    true
+    None
 }
 
-/// Whether a row can be laid upon one of the rows below.
+/// Whether a row can be laid upon one of the rows below. Where one of them doesn't match it, all that begin alike are
+/// passed over.
 fn has_under(tiles: &[Tile], w: usize, below: &[u16], q: &[u16]) -> bool
     requires wide { 1 ≤ w }
     requires long { length q.now ≡ w }
+    requires ascending { IsAscending w below.now (rows_in w below.now) }
     ensures under { result ≡ true → (r : ℕ) × (r < rows_in w below.now) × IsUnder tiles.now w (row_at w below.now r) q.now }
     ensures fault { result ≡ false → (r : ℕ) → r < rows_in w below.now → IsUnder tiles.now w (row_at w below.now r) q.now → ⊥ }
 {
-    for r in 0..below.len() / w {
-        if is_under(tiles, row(w, below, r), q) {
-            return true;
+    let mut r = 0usize;
+    'rows: while r < below.len() / w {
+        match clash(tiles, row(w, below, r), q) {
+            Some(x) => r = past_alike(w, below, r, x + 1),
+            None => return true,
         }
     }
     false
@@ -64,6 +68,7 @@ fn is_upon(tiles: &[Tile], w: usize, n: usize, below: &[u16], q: &[u16]) -> bool
     requires wide { 1 ≤ w }
     requires long { length q.now ≡ w }
     requires tiles { (x : ℕ) → x < w → slice_index q.now x < length tiles.now }
+    requires ascending { IsAscending w below.now (rows_in w below.now) }
     ensures upon { result ≡ true → IsUpon tiles.now w n below.now q.now }
     ensures fault { result ≡ false → IsUpon tiles.now w n below.now q.now → ⊥ }
 {
@@ -80,6 +85,7 @@ fn is_upon(tiles: &[Tile], w: usize, n: usize, below: &[u16], q: &[u16]) -> bool
 fn stranger_in(tiles: &[Tile], w: usize, n: usize, below: &[u16], cells: &[u16]) -> Option<usize>
     requires wide { 1 ≤ w }
     requires tiles { list_all (is_below (length tiles.now)) cells.now ≡ true }
+    requires ascending { IsAscending w below.now (rows_in w below.now) }
     ensures { MatchOption result ((r : ℕ) → r < rows_in w cells.now → IsUpon tiles.now w n below.now (row_at w cells.now r))
         (λ r. IsStranger (IsUpon tiles.now w n below.now) w cells.now r) }
 {
@@ -92,19 +98,18 @@ fn stranger_in(tiles: &[Tile], w: usize, n: usize, below: &[u16], cells: &[u16])
 }
 
 /// Whether a valid row upon the rows below isn't listed.
-fn has_missing(tiles: &[Tile], w: usize, n: usize, below: &[u16], cells: &[u16]) -> bool
-    requires few { length tiles.now ≤ MAX_TILES }
+fn has_missing(sides: &Sides<'_>, w: usize, n: usize, below: &[u16], cells: &[u16]) -> bool
     requires wide { 1 ≤ w }
     requires narrow { w ≤ MAX_COLUMNS }
     requires ascending { IsAscending w cells.now (rows_in w cells.now) }
-    ensures missing { result ≡ true → HasMissing (IsUpon tiles.now w n below.now) w cells.now }
-    ensures whole { result ≡ false → (q : List ℕ) → IsUpon tiles.now w n below.now q → IsListed w cells.now q }
+    ensures missing { result ≡ true → HasMissing (IsUpon sides.now.tiles.now w n below.now) w cells.now }
+    ensures whole { result ≡ false → (q : List ℕ) → IsUpon sides.now.tiles.now w n below.now q → IsListed w cells.now q }
 {
     if n == 0 {
-        return misses(tiles, w, &all_allowed(), cells);
+        return misses(sides, w, &all_allowed(sides), cells);
     }
     for r in 0..below.len() / w {
-        if misses(tiles, w, &allowed_upon(tiles, row(w, below, r)), cells) {
+        if misses(sides, w, &allowed_upon(sides, row(w, below, r)), cells) {
             return true;
         }
     }
@@ -113,28 +118,28 @@ fn has_missing(tiles: &[Tile], w: usize, n: usize, below: &[u16], cells: &[u16])
 
 /// Whether a layer lists the valid rows upon the rows below, or its first fault.
 fn check_layer(
-    tiles: &[Tile],
+    sides: &Sides<'_>,
     w: usize,
     n: usize,
     below: &[u16],
     cells: &[u16],
 ) -> Result<(), StripFault>
-    requires few { length tiles.now ≤ MAX_TILES }
     requires wide { 1 ≤ w }
     requires narrow { w ≤ MAX_COLUMNS }
     requires low { n < MAX_LAYERS }
-    requires tiles { list_all (is_below (length tiles.now)) cells.now ≡ true }
-    ensures { MatchResult result (λ u. IsListOf (IsUpon tiles.now w n below.now) w cells.now)
-        (λ f. IsLayerFault (IsUpon tiles.now w n below.now) w cells.now (n + 1) f) }
+    requires tiles { list_all (is_below (length sides.now.tiles.now)) cells.now ≡ true }
+    requires ascending { IsAscending w below.now (rows_in w below.now) }
+    ensures { MatchResult result (λ u. IsListOf (IsUpon sides.now.tiles.now w n below.now) w cells.now)
+        (λ f. IsLayerFault (IsUpon sides.now.tiles.now w n below.now) w cells.now (n + 1) f) }
 {
     let layer = n + 1;
     if let Some(row) = drop_in(w, cells) {
         return Err(StripFault::Order { layer, row });
     }
-    if let Some(row) = stranger_in(tiles, w, n, below, cells) {
+    if let Some(row) = stranger_in(sides.tiles, w, n, below, cells) {
         return Err(StripFault::Row { layer, row });
     }
-    if has_missing(tiles, w, n, below, cells) {
+    if has_missing(sides, w, n, below, cells) {
         return Err(StripFault::Missing { layer });
     }
     Ok(())
@@ -152,10 +157,11 @@ pub fn check_strip(set: SetRef, layers: &Layers) -> Result<(), StripFault>
     if !is_shaped(set.len(), layers) {
         return Err(StripFault::Shape);
     }
+    let sides = Sides::new(set.tiles());
     let mut below: &[u16] = &[];
     for (n, cells) in layers.layers.as_slice().iter().enumerate() {
         let cells = cells.as_slice();
-        if let Err(fault) = check_layer(set.tiles(), layers.width, n, below, cells) {
+        if let Err(fault) = check_layer(&sides, layers.width, n, below, cells) {
             return Err(fault);
         }
         below = cells;

@@ -8,6 +8,7 @@ use crate::limits::MAX_COLUMNS;
 use crate::walk::{Columns, may_come, pruned};
 use std::alloc::{AllocError, Global};
 use wt_grid::MAX_TILES;
+use wt_mask::Sides;
 use wt_tile::Tile;
 
 /// Appends a row.
@@ -61,23 +62,24 @@ fn gather_from(
 /// The rows that their columns allow, in ascending order, or some of them where they are more than `room`.
 pub fn gathered(
     alloc: Global,
-    tiles: &[Tile],
+    sides: &Sides<'_>,
     w: usize,
     allowed: &Columns,
     room: usize,
 ) -> Result<(Vec<u16>, bool), AllocError>
-    requires few { length tiles.now ≤ MAX_TILES }
     requires wide { 1 ≤ w }
     requires narrow { w ≤ MAX_COLUMNS }
-    ensures all { IfOk result (λ found. found.1 ≡ true → IsListOf (λ q. (length q ≡ w) × IsWay tiles.now allowed.now w q) w found.0.items) }
+    ensures all { IfOk result (λ found. found.1 ≡ true → IsListOf (λ q. (length q ≡ w) × IsWay sides.now.tiles.now allowed.now w q) w found.0.items) }
     ensures sorted { IfOk result (λ found. IsSorted w found.0.items) }
     ensures right { IfOk result (λ found. (r : ℕ) → r < rows_in w found.0.items
-        → (length (row_at w found.0.items r) ≡ w) × IsWay tiles.now allowed.now w (row_at w found.0.items r)) }
+        → (length (row_at w found.0.items r) ≡ w) × IsWay sides.now.tiles.now allowed.now w (row_at w found.0.items r)) }
     ensures more { IfOk result (λ found. found.1 ≡ false → room < rows_in w found.0.items) }
 {
-    let left = pruned(tiles, w, allowed);
-    let mut row = [0u16; MAX_COLUMNS];
     let mut cells = Vec::new(alloc);
-    let done = gather_from(tiles, w, &left, room, &mut cells, &mut row, 0)?;
+    let Some(left) = pruned(sides, w, allowed) else {
+        return Ok((cells, true));
+    };
+    let mut row = [0u16; MAX_COLUMNS];
+    let done = gather_from(sides.tiles, w, &left, room, &mut cells, &mut row, 0)?;
     Ok((cells, done))
 }

@@ -9,33 +9,31 @@ use crate::limits::{MAX_COLUMNS, MAX_LAYERS};
 use crate::rows::row;
 use crate::walk::{all_allowed, allowed_upon, first_missing, misses};
 use std::alloc::{AllocError, Global};
-use wt_grid::MAX_TILES;
+use wt_mask::Sides;
 use wt_pattern::Pattern;
 use wt_seq::Seq;
-use wt_tile::Tile;
 
 /// The rows of the layer below m + 1 others upon which no rows up to the top can be laid, from those of the next layer.
 fn stuck_in(
     alloc: Global,
-    tiles: &[Tile],
+    sides: &Sides<'_>,
     w: usize,
     made: &[Seq<u16>],
     m: usize,
     above: &[u16],
 ) -> Result<Vec<u16>, AllocError>
-    requires few { length tiles.now ≤ MAX_TILES }
     requires wide { 1 ≤ w }
     requires narrow { w ≤ MAX_COLUMNS }
-    requires made { AreFilled tiles.now w made.now }
+    requires made { AreFilled sides.now.tiles.now w made.now }
     requires inside { suc m < length made.now }
-    requires above { AreStuckUnder tiles.now w (length made.now) m above.now }
-    ensures { IfOk result (λ cells. AreStuckUnder tiles.now w (length made.now) (suc m) cells.items) }
+    requires above { AreStuckUnder sides.now.tiles.now w (length made.now) m above.now }
+    ensures { IfOk result (λ cells. AreStuckUnder sides.now.tiles.now w (length made.now) (suc m) cells.items) }
 {
     let layer = made[made.len() - 2 - m].as_slice();
     let mut stuck = Vec::new(alloc);
     for r in 0..layer.len() / w {
         let p = row(w, layer, r);
-        if !misses(tiles, w, &allowed_upon(tiles, p), above) {
+        if !misses(sides, w, &allowed_upon(sides, p), above) {
             push_row(w, &mut stuck, p)?;
         }
     }
@@ -45,22 +43,21 @@ fn stuck_in(
 /// For each layer, from the highest down, its rows upon which no rows up to the top can be laid.
 fn stuck_rows(
     alloc: Global,
-    tiles: &[Tile],
+    sides: &Sides<'_>,
     w: usize,
     made: &[Seq<u16>],
 ) -> Result<Vec<Seq<u16>>, AllocError>
-    requires few { length tiles.now ≤ MAX_TILES }
     requires wide { 1 ≤ w }
     requires narrow { w ≤ MAX_COLUMNS }
     requires some { 1 ≤ length made.now }
-    requires made { AreFilled tiles.now w made.now }
+    requires made { AreFilled sides.now.tiles.now w made.now }
     ensures { IfOk result (λ stuck. (length stuck.items ≡ length made.now)
-        × ((m : ℕ) → m < length made.now → AreStuckUnder tiles.now w (length made.now) m (slice_index_or stuck.items m []))) }
+        × ((m : ℕ) → m < length made.now → AreStuckUnder sides.now.tiles.now w (length made.now) m (slice_index_or stuck.items m []))) }
 {
     let mut stuck: Vec<Seq<u16>> = Vec::new(alloc);
     stuck.push(Seq::new(Vec::new(alloc)))?;
     for m in 0..made.len() - 1 {
-        let rows = stuck_in(alloc, tiles, w, made, m, stuck[m].as_slice())?;
+        let rows = stuck_in(alloc, sides, w, made, m, stuck[m].as_slice())?;
         stuck.push(Seq::new(rows))?;
     }
     Ok(stuck)
@@ -68,49 +65,47 @@ fn stuck_rows(
 
 /// Puts in place of row y - 1 the least row y that can be laid upon it and isn't listed; false where there is none.
 fn next_row(
-    tiles: &[Tile],
+    sides: &Sides<'_>,
     w: usize,
     y: usize,
     listed: &[u16],
     row: &mut [u16; MAX_COLUMNS],
 ) -> bool
-    requires few { length tiles.now ≤ MAX_TILES }
     requires wide { 1 ≤ w }
     requires narrow { w ≤ MAX_COLUMNS }
     requires ascending { IsAscending w listed.now (rows_in w listed.now) }
     ensures long { length row.new ≡ MAX_COLUMNS }
-    ensures next { result ≡ true → IsNextRow tiles.now w y (take w row.old) (take w row.new) }
+    ensures next { result ≡ true → IsNextRow sides.now.tiles.now w y (take w row.old) (take w row.new) }
     ensures missing { result ≡ true → IsListed w listed.now (take w row.new) → ⊥ }
-    ensures first { result ≡ true → (q : List ℕ) → IsNextRow tiles.now w y (take w row.old) q → (IsListed w listed.now q → ⊥) → IsNotBehind w (take w row.new) q }
-    ensures none { result ≡ false → (q : List ℕ) → IsNextRow tiles.now w y (take w row.old) q → IsListed w listed.now q }
+    ensures first { result ≡ true → (q : List ℕ) → IsNextRow sides.now.tiles.now w y (take w row.old) q → (IsListed w listed.now q → ⊥) → IsNotBehind w (take w row.new) q }
+    ensures none { result ≡ false → (q : List ℕ) → IsNextRow sides.now.tiles.now w y (take w row.old) q → IsListed w listed.now q }
 {
     if y == 0 {
-        return first_missing(tiles, w, &all_allowed(), listed, row);
+        return first_missing(sides, w, &all_allowed(sides), listed, row);
     }
-    let allowed = allowed_upon(tiles, &row[..w]);
-    first_missing(tiles, w, &allowed, listed, row)
+    let allowed = allowed_upon(sides, &row[..w]);
+    first_missing(sides, w, &allowed, listed, row)
 }
 
 /// The least valid pattern of as many rows as layers are made, as a list in reading order.
 pub fn least_pattern(
     alloc: Global,
-    tiles: &[Tile],
+    sides: &Sides<'_>,
     w: usize,
     made: &[Seq<u16>],
 ) -> Result<Pattern, AllocError>
-    requires few { length tiles.now ≤ MAX_TILES }
     requires wide { 1 ≤ w }
     requires narrow { w ≤ MAX_COLUMNS }
     requires some { 1 ≤ length made.now }
     requires low { length made.now ≤ MAX_LAYERS }
-    requires made { AreFilled tiles.now w made.now }
-    ensures { IfOk result (λ g. IsLeastPattern tiles.now w (length made.now) g) }
+    requires made { AreFilled sides.now.tiles.now w made.now }
+    ensures { IfOk result (λ g. IsLeastPattern sides.now.tiles.now w (length made.now) g) }
 {
-    let stuck = stuck_rows(alloc, tiles, w, made)?;
+    let stuck = stuck_rows(alloc, sides, w, made)?;
     let mut row = [0u16; MAX_COLUMNS];
     let mut cells = Vec::new(alloc);
     for y in 0..made.len() {
-        let found = next_row(tiles, w, y, stuck[made.len() - 1 - y].as_slice(), &mut row);
+        let found = next_row(sides, w, y, stuck[made.len() - 1 - y].as_slice(), &mut row);
         prove!(found);
         push_row(w, &mut cells, &row[..w])?;
     }

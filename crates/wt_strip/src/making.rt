@@ -11,10 +11,10 @@ use crate::least::least_pattern;
 use crate::limits::{MAX_COLUMNS, MAX_LAYERS, MAX_ROWS};
 use crate::upon::{first_layer, next_layer};
 use std::alloc::{AllocError, AllocFailed, Global};
-use wt_grid::MAX_TILES;
+use wt_mask::Sides;
 use wt_pattern::Pattern;
 use wt_seq::Seq;
-use wt_tile::{SetRef, Tile};
+use wt_tile::SetRef;
 
 /// What the layers of a width show.
 #[derive(Drop)]
@@ -57,37 +57,40 @@ impl<T: Drop> From<AllocFailed<T>> for StripEnd {
 /// The layer above those that are made, or None where it has more than `room` rows.
 fn layer_upon(
     alloc: Global,
-    tiles: &[Tile],
+    sides: &Sides<'_>,
     w: usize,
     made: &[Seq<u16>],
     room: usize,
 ) -> Result<Option<Vec<u16>>, AllocError>
-    requires few { length tiles.now ≤ MAX_TILES }
     requires wide { 1 ≤ w }
     requires narrow { w ≤ MAX_COLUMNS }
-    requires made { AreFilled tiles.now w made.now }
-    ensures { IfOk result (λ found. MatchOption found (HasMore (IsInLayer tiles.now w (length made.now)) w room)
-        (λ cells. IsLayer (IsInLayer tiles.now w (length made.now)) w cells.items)) }
+    requires made { AreFilled sides.now.tiles.now w made.now }
+    ensures { IfOk result (λ found. MatchOption found (HasMore (IsInLayer sides.now.tiles.now w (length made.now)) w room)
+        (λ cells. IsLayer (IsInLayer sides.now.tiles.now w (length made.now)) w cells.items)) }
 {
     if made.is_empty() {
-        return first_layer(alloc, tiles, w, room);
+        return first_layer(alloc, sides, w, room);
     }
-    next_layer(alloc, tiles, w, made[made.len() - 1].as_slice(), room)
+    next_layer(alloc, sides, w, made[made.len() - 1].as_slice(), room)
 }
 
 /// The layers of valid rows up to the first that is empty or would be too large, or the least pattern.
-fn strip_tiles(alloc: Global, tiles: &[Tile], w: usize, limit: usize) -> Result<Stripped, StripEnd>
-    requires few { length tiles.now ≤ MAX_TILES }
+fn strip_tiles(
+    alloc: Global,
+    sides: &Sides<'_>,
+    w: usize,
+    limit: usize,
+) -> Result<Stripped, StripEnd>
     requires wide { 1 ≤ w }
     requires narrow { w ≤ MAX_COLUMNS }
     requires high { 1 ≤ limit }
     requires low { limit ≤ MAX_LAYERS }
-    ensures { MatchResult result (λ found. IsStripped tiles.now w limit found) (λ end. IsStripEnd tiles.now w limit end) }
+    ensures { MatchResult result (λ found. IsStripped sides.now.tiles.now w limit found) (λ end. IsStripEnd sides.now.tiles.now w limit end) }
 {
     let mut made: Vec<Seq<u16>> = Vec::new(alloc);
     let mut room = MAX_ROWS;
     for n in 0..limit {
-        let Some(cells) = layer_upon(alloc, tiles, w, &made, room)? else {
+        let Some(cells) = layer_upon(alloc, sides, w, &made, room)? else {
             return Err(StripEnd::TooManyRows { layer: n + 1 });
         };
         let rows = cells.len() / w;
@@ -103,7 +106,7 @@ fn strip_tiles(alloc: Global, tiles: &[Tile], w: usize, limit: usize) -> Result<
         }
         room -= rows;
     }
-    let pattern = least_pattern(alloc, tiles, w, &made)?;
+    let pattern = least_pattern(alloc, sides, w, &made)?;
     Ok(Stripped::Filled(pattern))
 }
 
@@ -125,5 +128,5 @@ pub fn strip(
     ensures answer { MatchResult result (λ found. IsStripped set.entry.list.now.tiles width limit found) (λ end. IsStripEnd set.entry.list.now.tiles width limit end) }
     ensures accepted { IfOk result (λ found. HasNoFault set.entry.list.now.tiles found) }
 {
-    strip_tiles(alloc, set.tiles(), width, limit)
+    strip_tiles(alloc, &Sides::new(set.tiles()), width, limit)
 }

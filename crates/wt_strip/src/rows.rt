@@ -1,9 +1,10 @@
 //! Rows that stand one after the other, and the search for one of them.
-ghost use Rattle.std.specs.Prelude.{◌≡◌, ◌<◌, ◌≤◌, true, false, length, MatchOption};
+ghost use Rattle.std.specs.Prelude.{◌≡◌, ◌<◌, ◌≤◌, ℕ, true, false, length, MatchOption};
 ghost use Rattle.std.specs.Ordering.{nat_cmp};
 ghost use Rattle.std.specs.Cmp.Lexicographic.{slice_cmp};
 ghost use Rattle.wt_strip.specs.Listed.{rows_in, row_at, IsAscending, IsListed};
 ghost use Rattle.wt_strip.specs.Exact.{IsDrop};
+ghost use Rattle.wt_strip.specs.Walks.{AreAlike};
 
 use std::cmp::Ordering;
 
@@ -59,4 +60,44 @@ pub fn is_listed(w: usize, cells: &[u16], q: &[u16]) -> bool
         }
     }
     false
+}
+
+/// Whether the first n tiles of two rows are the same.
+fn begins_alike(p: &[u16], q: &[u16], n: usize) -> bool
+    requires first { n ≤ length p.now }
+    requires second { n ≤ length q.now }
+    ensures alike { result ≡ true → AreAlike n p.now q.now }
+    ensures apart { result ≡ false → AreAlike n p.now q.now → ⊥ }
+{
+    for x in 0..n {
+        if p[x] != q[x] {
+            return false;
+        }
+    }
+    true
+}
+
+/// A row behind row r of ascending rows, or their end, so that all before it from r on begin with the same n tiles.
+pub fn past_alike(w: usize, cells: &[u16], r: usize, n: usize) -> usize
+    requires wide { 1 ≤ w }
+    requires inside { r < rows_in w cells.now }
+    requires narrow { n ≤ w }
+    requires ascending { IsAscending w cells.now (rows_in w cells.now) }
+    ensures past { r < result }
+    ensures within { result ≤ rows_in w cells.now }
+    ensures alike { (s : ℕ) → r ≤ s → s < result → AreAlike n (row_at w cells.now s) (row_at w cells.now r) }
+{
+    let mut low = r + 1;
+    let mut high = cells.len() / w;
+    'halves: while low < high {
+        let middle = low + (high - low) / 2;
+        let here = row(w, cells, middle);
+        let first = row(w, cells, r);
+        if begins_alike(here, first, n) {
+            low = middle + 1;
+        } else {
+            high = middle;
+        }
+    }
+    low
 }

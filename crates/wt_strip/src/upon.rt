@@ -10,30 +10,28 @@ use crate::merge::merged;
 use crate::rows::row;
 use crate::walk::{all_allowed, allowed_upon};
 use std::alloc::{AllocError, Global};
-use wt_grid::MAX_TILES;
-use wt_tile::Tile;
+use wt_mask::Sides;
 
 /// The valid rows upon one row, or None where they are more than `room`.
 fn rows_upon_one(
     alloc: Global,
-    tiles: &[Tile],
+    sides: &Sides<'_>,
     w: usize,
     below: &[u16],
     r: usize,
     room: usize,
 ) -> Result<Option<Vec<u16>>, AllocError>
-    requires few { length tiles.now ≤ MAX_TILES }
     requires wide { 1 ≤ w }
     requires narrow { w ≤ MAX_COLUMNS }
     requires inside { r < rows_in w below.now }
-    ensures { IfOk result (λ found. MatchOption found (HasMore (IsUponSome tiles.now w below.now r (r + 1)) w room)
-        (λ cells. IsLayer (IsUponSome tiles.now w below.now r (r + 1)) w cells.items)) }
+    ensures { IfOk result (λ found. MatchOption found (HasMore (IsUponSome sides.now.tiles.now w below.now r (r + 1)) w room)
+        (λ cells. IsLayer (IsUponSome sides.now.tiles.now w below.now r (r + 1)) w cells.items)) }
 {
     let (cells, done) = gathered(
         alloc,
-        tiles,
+        sides,
         w,
-        &allowed_upon(tiles, row(w, below, r)),
+        &allowed_upon(sides, row(w, below, r)),
         room,
     )?;
     if done { Ok(Some(cells)) } else { Ok(None) }
@@ -42,29 +40,28 @@ fn rows_upon_one(
 /// The valid rows upon one of the rows from `low` on below `high`, or None where they are more than `room`.
 fn rows_upon(
     alloc: Global,
-    tiles: &[Tile],
+    sides: &Sides<'_>,
     w: usize,
     below: &[u16],
     low: usize,
     high: usize,
     room: usize,
 ) -> Result<Option<Vec<u16>>, AllocError>
-    requires few { length tiles.now ≤ MAX_TILES }
     requires wide { 1 ≤ w }
     requires narrow { w ≤ MAX_COLUMNS }
     requires some { low < high }
     requires inside { high ≤ rows_in w below.now }
-    ensures { IfOk result (λ found. MatchOption found (HasMore (IsUponSome tiles.now w below.now low high) w room)
-        (λ cells. IsLayer (IsUponSome tiles.now w below.now low high) w cells.items)) }
+    ensures { IfOk result (λ found. MatchOption found (HasMore (IsUponSome sides.now.tiles.now w below.now low high) w room)
+        (λ cells. IsLayer (IsUponSome sides.now.tiles.now w below.now low high) w cells.items)) }
 {
     if high - low == 1 {
-        return rows_upon_one(alloc, tiles, w, below, low, room);
+        return rows_upon_one(alloc, sides, w, below, low, room);
     }
     let middle = low + (high - low) / 2;
-    let Some(first) = rows_upon(alloc, tiles, w, below, low, middle, room)? else {
+    let Some(first) = rows_upon(alloc, sides, w, below, low, middle, room)? else {
         return Ok(None);
     };
-    let Some(second) = rows_upon(alloc, tiles, w, below, middle, high, room)? else {
+    let Some(second) = rows_upon(alloc, sides, w, below, middle, high, room)? else {
         return Ok(None);
     };
     let cells = merged(alloc, w, &first, &second)?;
@@ -77,34 +74,32 @@ fn rows_upon(
 /// The first layer: all valid rows, or None where they are more than `room`.
 pub fn first_layer(
     alloc: Global,
-    tiles: &[Tile],
+    sides: &Sides<'_>,
     w: usize,
     room: usize,
 ) -> Result<Option<Vec<u16>>, AllocError>
-    requires few { length tiles.now ≤ MAX_TILES }
     requires wide { 1 ≤ w }
     requires narrow { w ≤ MAX_COLUMNS }
-    ensures { IfOk result (λ found. MatchOption found (HasMore (IsRow tiles.now w) w room) (λ cells. IsLayer (IsRow tiles.now w) w cells.items)) }
+    ensures { IfOk result (λ found. MatchOption found (HasMore (IsRow sides.now.tiles.now w) w room) (λ cells. IsLayer (IsRow sides.now.tiles.now w) w cells.items)) }
 {
-    let (cells, done) = gathered(alloc, tiles, w, &all_allowed(), room)?;
+    let (cells, done) = gathered(alloc, sides, w, &all_allowed(sides), room)?;
     if done { Ok(Some(cells)) } else { Ok(None) }
 }
 
 /// The next layer: the valid rows upon one of the rows of the layer below, or None where they are more than `room`.
 pub fn next_layer(
     alloc: Global,
-    tiles: &[Tile],
+    sides: &Sides<'_>,
     w: usize,
     below: &[u16],
     room: usize,
 ) -> Result<Option<Vec<u16>>, AllocError>
-    requires few { length tiles.now ≤ MAX_TILES }
     requires wide { 1 ≤ w }
     requires narrow { w ≤ MAX_COLUMNS }
     requires some { 0 < rows_in w below.now }
-    ensures { IfOk result (λ found. MatchOption found (HasMore (IsUpon tiles.now w 1 below.now) w room) (λ cells. IsLayer (IsUpon tiles.now w 1 below.now) w cells.items)) }
+    ensures { IfOk result (λ found. MatchOption found (HasMore (IsUpon sides.now.tiles.now w 1 below.now) w room) (λ cells. IsLayer (IsUpon sides.now.tiles.now w 1 below.now) w cells.items)) }
 {
-    let Some(cells) = rows_upon(alloc, tiles, w, below, 0, below.len() / w, room)? else {
+    let Some(cells) = rows_upon(alloc, sides, w, below, 0, below.len() / w, room)? else {
         return Ok(None);
     };
     Ok(Some(cells))

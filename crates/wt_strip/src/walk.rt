@@ -1,56 +1,51 @@
 //! Walks of rows in ascending order, column by column, and the search for one that isn't listed.
-ghost use Rattle.std.specs.Prelude.{◌≡◌, ◌<◌, ◌≤◌, ◌-◌, ℕ, suc, List, true, false, length, take, slice_index, slice_index_or, replicate};
-ghost use Rattle.wt_tile.specs.Matching;
+ghost use Rattle.std.specs.Prelude.{◌≡◌, ◌<◌, ◌≤◌, ◌-◌, ℕ, suc, List, true, false, length, take, slice_index, MatchOption};
 ghost use Rattle.wt_tile.specs.Matching.{matches};
 ghost use Rattle.wt_strip.specs.Layers.{IsRow, IsUnder};
 ghost use Rattle.wt_strip.specs.Listed.{rows_in, IsAscending, IsListed};
-ghost use Rattle.wt_strip.specs.Walks.{column_allows, is_allowed, IsWay, AreAlike, IsNotBehind};
+ghost use Rattle.wt_strip.specs.Walks.{column_allows, is_allowed, IsWay, IsPruned, AreAlike, IsNotBehind};
 
 use crate::limits::MAX_COLUMNS;
 use crate::rows::is_listed;
 use wt_grid::MAX_TILES;
-use wt_tile::{Axis, Tile, is_match, tile_at};
+use wt_lane::{and_into, any};
+use wt_mask::{Sides, Way, has_bit, join_into, next_bit};
+use wt_tile::{Axis, Tile, is_match};
 
-/// How many colours a column tells apart: a set of `MAX_TILES` tiles whose colours are numbered has no more on a side. A
-/// tile whose colour is from here on is kept.
-const COLOURS: usize = 512;
-
-/// For each tile, whether a column allows it.
-pub type Column = [bool; MAX_TILES];
-
-/// For each column of a row, the tiles that it allows.
-pub type Columns = [Column; MAX_COLUMNS];
+/// For each column of a row, the mask of the tiles that it allows.
+pub type Columns = [[u64; 4]; MAX_COLUMNS];
 
 /// The tiles that may stand above one.
-fn above(tiles: &[Tile], a: u16) -> Column
-    requires few { length tiles.now ≤ MAX_TILES }
-    ensures { (t : ℕ) → t < length tiles.now → column_allows result t ≡ matches tiles.now Axis.Two a t }
+fn above(sides: &Sides<'_>, a: u16) -> [u64; 4]
+    ensures { (t : ℕ) → t < length sides.now.tiles.now → column_allows result t ≡ matches sides.now.tiles.now Axis.Two a t }
 {
-    let mut column = [false; MAX_TILES];
-    for t in 0..tiles.len() {
-        column[t] = is_match(tiles, Axis::Two, a, t as u16);
-    }
-    column
+    sides.beside(Way::Up, a)
+}
+
+/// The tiles that may stand before one.
+fn left_of(sides: &Sides<'_>, u: u16) -> [u64; 4]
+    ensures { (t : ℕ) → t < length sides.now.tiles.now → column_allows result t ≡ matches sides.now.tiles.now Axis.One t u }
+{
+    sides.beside(Way::Left, u)
 }
 
 /// The tiles that may stand above those of a row, column by column.
-pub fn allowed_upon(tiles: &[Tile], p: &[u16]) -> Columns
-    requires few { length tiles.now ≤ MAX_TILES }
+pub fn allowed_upon(sides: &Sides<'_>, p: &[u16]) -> Columns
     requires wide { length p.now ≤ MAX_COLUMNS }
-    ensures { (x t : ℕ) → x < length p.now → t < length tiles.now → is_allowed result x t ≡ matches tiles.now Axis.Two (slice_index p.now x) t }
+    ensures { (x t : ℕ) → x < length p.now → t < length sides.now.tiles.now → is_allowed result x t ≡ matches sides.now.tiles.now Axis.Two (slice_index p.now x) t }
 {
-    let mut allowed = [[false; MAX_TILES]; MAX_COLUMNS];
+    let mut allowed = [[0u64; 4]; MAX_COLUMNS];
     for x in 0..p.len() {
-        allowed[x] = above(tiles, p[x]);
+        allowed[x] = above(sides, p[x]);
     }
     allowed
 }
 
 /// Every tile in every column.
-pub fn all_allowed() -> Columns
-    ensures { (x t : ℕ) → x < MAX_COLUMNS → t < MAX_TILES → is_allowed result x t ≡ true }
+pub fn all_allowed(sides: &Sides<'_>) -> Columns
+    ensures { (x t : ℕ) → x < MAX_COLUMNS → t < length sides.now.tiles.now → is_allowed result x t ≡ true }
 {
-    [[true; MAX_TILES]; MAX_COLUMNS]
+    [sides.all(); MAX_COLUMNS]
 }
 
 /// Whether a tile may come behind the first x cells of a row.
@@ -69,7 +64,7 @@ pub fn may_come(
     ensures barred { result ≡ false → is_allowed allowed.now x t ≡ true
         → ((k : ℕ) → x ≡ suc k → matches tiles.now Axis.One (slice_index row.now k) t ≡ true) → ⊥ }
 {
-    if !allowed[x][t] {
+    if !has_bit(&allowed[x], t) {
         return false;
     }
     if x == 0 {
@@ -114,88 +109,81 @@ fn misses_from(
     false
 }
 
-/// The west colours that the tiles of a column show, of those below `COLOURS`.
-fn shown_west(tiles: &[Tile], column: &Column) -> [bool; COLOURS]
-    requires { length tiles.now ≤ MAX_TILES }
-    ensures { (t : ℕ) → t < length tiles.now → column_allows column.now t ≡ true → (Matching.tile_at tiles.now t).west < COLOURS
-        → slice_index_or result (Matching.tile_at tiles.now t).west false ≡ true }
+/// The tiles before which a tile of a column may stand.
+fn before(sides: &Sides<'_>, next: &[u64; 4]) -> [u64; 4]
+    ensures { (t u : ℕ) → t < length sides.now.tiles.now → column_allows next.now u ≡ true → matches sides.now.tiles.now Axis.One t u ≡ true
+        → column_allows result t ≡ true }
 {
-    let mut shown = [false; COLOURS];
-    for t in 0..tiles.len() {
-        let colour = usize::from(tile_at(tiles, t as u16).west);
-        if column[t] && colour < COLOURS {
-            shown[colour] = true;
-        }
+    let mut mask = [0u64; 4];
+    let mut from = 0usize;
+    'tiles: while let Some(u) = next_bit(next, from) {
+        join_into(&mut mask, &left_of(sides, u as u16));
+        from = u + 1;
     }
-    shown
+    mask
 }
 
 /// Of the tiles of a column those that a tile of the next column matches.
-#[tactic(auto, unfolding(wt_tile::specs::Matching::matches))]
-fn narrowed(tiles: &[Tile], column: &Column, next: &Column) -> Column
-    requires { length tiles.now ≤ MAX_TILES }
+fn narrowed(sides: &Sides<'_>, column: &[u64; 4], next: &[u64; 4]) -> [u64; 4]
     ensures fewer { (t : ℕ) → column_allows result t ≡ true → column_allows column.now t ≡ true }
-    ensures kept { (t u : ℕ) → t < length tiles.now → u < length tiles.now → column_allows column.now t ≡ true → column_allows next.now u ≡ true
-        → matches tiles.now Axis.One t u ≡ true → column_allows result t ≡ true }
+    ensures kept { (t u : ℕ) → t < length sides.now.tiles.now → column_allows column.now t ≡ true → column_allows next.now u ≡ true
+        → matches sides.now.tiles.now Axis.One t u ≡ true → column_allows result t ≡ true }
 {
-    let shown = shown_west(tiles, next);
-    let mut kept = *column;
-    for t in 0..tiles.len() {
-        let colour = usize::from(tile_at(tiles, t as u16).east);
-        if colour < COLOURS && !shown[colour] {
-            kept[t] = false;
-        }
-    }
-    kept
+    let mut mask = before(sides, next);
+    and_into(&mut mask, column);
+    mask
 }
 
-/// The tiles of the columns from which a row can go on to the right end. Without this a walk could turn back too often to end.
-pub fn pruned(tiles: &[Tile], w: usize, allowed: &Columns) -> Columns
-    requires few { length tiles.now ≤ MAX_TILES }
+/// The tiles of the columns from which a row can go on to the right end, or None where a column has none. Without this a
+/// walk could turn back too often to end.
+pub fn pruned(sides: &Sides<'_>, w: usize, allowed: &Columns) -> Option<Columns>
     requires wide { 1 ≤ w }
     requires narrow { w ≤ MAX_COLUMNS }
-    ensures fewer { (x t : ℕ) → is_allowed result x t ≡ true → is_allowed allowed.now x t ≡ true }
-    ensures kept { (q : List ℕ) → IsWay tiles.now allowed.now w q → IsWay tiles.now result w q }
+    ensures { MatchOption result ((q : List ℕ) → IsWay sides.now.tiles.now allowed.now w q → ⊥)
+        (λ left. IsPruned sides.now.tiles.now allowed.now w left) }
 {
     let mut left = *allowed;
     for i in 1..w {
         let x = w - i;
-        let column = narrowed(tiles, &left[x - 1], &left[x]);
+        let column = narrowed(sides, &left[x - 1], &left[x]);
+        if !any(&column) {
+            return None;
+        }
         left[x - 1] = column;
     }
-    left
+    Some(left)
 }
 
 /// Whether a row that the columns allow isn't listed. The first w tiles of `row` are the least such row then.
 pub fn first_missing(
-    tiles: &[Tile],
+    sides: &Sides<'_>,
     w: usize,
     allowed: &Columns,
     cells: &[u16],
     row: &mut [u16; MAX_COLUMNS],
 ) -> bool
-    requires few { length tiles.now ≤ MAX_TILES }
     requires wide { 1 ≤ w }
     requires narrow { w ≤ MAX_COLUMNS }
     requires ascending { IsAscending w cells.now (rows_in w cells.now) }
     ensures long { length row.new ≡ MAX_COLUMNS }
-    ensures missed { result ≡ true → IsWay tiles.now allowed.now w row.new × (IsListed w cells.now (take w row.new) → ⊥) }
-    ensures first { result ≡ true → (q : List ℕ) → length q ≡ w → IsWay tiles.now allowed.now w q → (IsListed w cells.now q → ⊥) → IsNotBehind w row.new q }
-    ensures none { result ≡ false → (q : List ℕ) → length q ≡ w → IsWay tiles.now allowed.now w q → IsListed w cells.now q }
+    ensures missed { result ≡ true → IsWay sides.now.tiles.now allowed.now w row.new × (IsListed w cells.now (take w row.new) → ⊥) }
+    ensures first { result ≡ true → (q : List ℕ) → length q ≡ w → IsWay sides.now.tiles.now allowed.now w q → (IsListed w cells.now q → ⊥) → IsNotBehind w row.new q }
+    ensures none { result ≡ false → (q : List ℕ) → length q ≡ w → IsWay sides.now.tiles.now allowed.now w q → IsListed w cells.now q }
 {
-    let left = pruned(tiles, w, allowed);
-    misses_from(tiles, w, &left, cells, row, 0)
+    let Some(left) = pruned(sides, w, allowed) else {
+        return false;
+    };
+    misses_from(sides.tiles, w, &left, cells, row, 0)
 }
 
 /// Whether a row that the columns allow isn't listed.
-pub fn misses(tiles: &[Tile], w: usize, allowed: &Columns, cells: &[u16]) -> bool
-    requires few { length tiles.now ≤ MAX_TILES }
+pub fn misses(sides: &Sides<'_>, w: usize, allowed: &Columns, cells: &[u16]) -> bool
     requires wide { 1 ≤ w }
     requires narrow { w ≤ MAX_COLUMNS }
     requires ascending { IsAscending w cells.now (rows_in w cells.now) }
-    ensures missed { result ≡ true → (q : List ℕ) × (length q ≡ w) × IsWay tiles.now allowed.now w q × (IsListed w cells.now q → ⊥) }
-    ensures none { result ≡ false → (q : List ℕ) → length q ≡ w → IsWay tiles.now allowed.now w q → IsListed w cells.now q }
+    ensures missed { result ≡ true → (q : List ℕ) × (length q ≡ w) × IsWay sides.now.tiles.now allowed.now w q × (IsListed w cells.now q → ⊥) }
+    ensures none { result ≡ false → (q : List ℕ) → length q ≡ w → IsWay sides.now.tiles.now allowed.now w q → IsListed w cells.now q }
 {
     let mut row = [0u16; MAX_COLUMNS];
-    first_missing(tiles, w, allowed, cells, &mut row)
+    first_missing(sides, w, allowed, cells, &mut row)
 }

@@ -5,5 +5,5 @@ use Rattle.wt_strip.proofs.least.least_pattern.Given as goal
 abbrev pub invariant-loop-y : goal.invariant-loop-y
 invariant-loop-y l = record {
   long : length l.row ≡ 64;
-  begun : IsBegun l.tiles l.w (length l.made) l.y (take l.w l.row) l.cells.items;
+  begun : IsBegun l.sides.tiles.now l.w (length l.made) l.y (take l.w l.row) l.cells.items;
 }

@@ -10,10 +10,10 @@ stuck_in-requires-clause-above c =
     let l = i.long in
     let lt : c.loop-m.m < length c.loop-m.stuck.items = omega (arith, l) in
     let here : c.as_slice.result.now ≡ slice_index_or c.loop-m.stuck.items c.loop-m.m [] = c.as_slice.ensures ∙ (c.index.ensures ∙ any_default c.loop-m.stuck.items c.loop-m.m c.index.result.now lt) in
-    subst (λ (cs : List ℕ). AreStuckUnder c.args.tiles.now c.args.w (length c.args.made.now) c.loop-m.m cs) (sym here) (i.told c.loop-m.m (omega arith))
+    subst (λ (cs : List ℕ). AreStuckUnder c.args.sides.now.tiles.now c.args.w (length c.args.made.now) c.loop-m.m cs) (sym here) (i.told c.loop-m.m (omega arith))
 
 pub loop-m-preserved : goal.loop-m-preserved
 loop-m-preserved c =
     let i = c.loop-m.invariant in
-    let more = stuck_more c.args.tiles.now c.args.w (length c.args.made.now) c.loop-m.m c.loop-m.stuck.items c.push-in-loop-m.new.self.items c.in_ok-rows.rows.items c.new-in-loop-m.result i.long i.told (c.in_ok-rows.ensures {u = tt}) c.new-in-loop-m.ensures c.in_ok-push-2.ensures.items in
+    let more = stuck_more c.args.sides.now.tiles.now c.args.w (length c.args.made.now) c.loop-m.m c.loop-m.stuck.items c.push-in-loop-m.new.self.items c.in_ok-rows.rows.items c.new-in-loop-m.result i.long i.told (c.in_ok-rows.ensures {u = tt}) c.new-in-loop-m.ensures c.in_ok-push-2.ensures.items in
     record { long = more.0; told = more.1 }

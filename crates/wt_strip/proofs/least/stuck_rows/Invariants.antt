@@ -5,5 +5,5 @@ use Rattle.wt_strip.proofs.least.stuck_rows.Given as goal
 abbrev pub invariant-loop-m : goal.invariant-loop-m
 invariant-loop-m l = record {
   long : length l.stuck.items ≡ l.m + 1;
-  told : (m : ℕ) → m < l.m + 1 → AreStuckUnder l.tiles l.w (length l.made) m (slice_index_or l.stuck.items m []);
+  told : (m : ℕ) → m < l.m + 1 → AreStuckUnder l.sides.tiles.now l.w (length l.made) m (slice_index_or l.stuck.items m []);
 }

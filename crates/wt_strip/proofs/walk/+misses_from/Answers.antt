@@ -1,6 +1,6 @@
-use Rattle.std.proofs.Common.{arith, ◌≡◌, ◌<◌, ◌≤◌, ℕ, ap, ◌∙◌, inl, inr, slice_index, length, subst, List}
+use Rattle.std.proofs.Common.{rules, arith, ◌≡◌, ◌<◌, ◌≤◌, ℕ, ap, ◌∙◌, inl, inr, slice_index, length, subst, List}
 use Rattle.std.proofs.lemmas.Bool.{cases_lt}
-use Rattle.wt_strip.proofs.Walked.{was_true, whole_row, agree_on, kept, ahead, barred}
+use Rattle.wt_strip.proofs.Walked.{was_true, whole_row, agree_on, kept, ahead, barred, way_same, one_column}
 use Rattle.wt_strip.specs.Walks.{AreAlike}
 use Rattle.wt_strip.proofs.walk.+misses_from.Goals.{then-may_come+else-misses_from, else-may_come}
 use Rattle.wt_strip.proofs.walk.+misses_from.Goals as goal
@@ -66,3 +66,17 @@ loop-t-preserved t c = elim c.if-may_come.branch [
         ];
       }
 ]
+
+pub misses_from-requires : goal.misses_from-requires
+misses_from-requires t c =
+    let long = c.loop-t.invariant.long in
+    let inside = c.requires.inside in
+    let narrow = c.requires.narrow in
+    let begun = way_same c.args.tiles.now c.args.allowed.now c.args.x c.args.row.now c.loop-t.row (omega (arith, long, inside, narrow)) c.loop-t.invariant.same c.requires.begun in
+    let longer = one_column c.args.tiles.now c.args.allowed.now c.args.x c.loop-t.t c.loop-t.row (omega (arith, long, inside, narrow, c.if-x-w.false)) begun c.loop-t-test.true
+    (c.may_come.ensures.stands c.if-may_come.true) (c.may_come.ensures.across c.if-may_come.true) in
+    (search rules, (c.requires.few, (c.requires.wide, (c.requires.narrow, (omega (arith, inside, c.if-x-w.false), (c.requires.ascending, longer))))))
+
+pub returns-then-misses_from-clause-same : goal.returns-then-misses_from-clause-same
+returns-then-misses_from-clause-same t c =
+    kept c.args.x c.loop-t.t c.misses_from.new.row c.loop-t.row c.args.row.now c.misses_from.ensures.same c.loop-t.invariant.same

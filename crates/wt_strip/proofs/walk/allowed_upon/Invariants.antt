@@ -7,5 +7,5 @@ use Rattle.wt_strip.proofs.walk.allowed_upon.Given as goal
 abbrev pub invariant-loop-x : goal.invariant-loop-x
 invariant-loop-x l = record {
   long : length l.allowed ≡ 64;
-  right : (x t : ℕ) → x < l.x → t < length l.tiles → is_allowed l.allowed x t ≡ matches l.tiles Two (slice_index l.p x) t;
+  right : (x t : ℕ) → x < l.x → t < length l.sides.tiles.now → is_allowed l.allowed x t ≡ matches l.sides.tiles.now Two (slice_index l.p x) t;
 }
