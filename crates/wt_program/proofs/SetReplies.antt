@@ -1,5 +1,5 @@
 -- What is replied to a list of tiles that was read.
-use Rattle.std.proofs.Common.{◌≡◌, ℕ, List, sym, ◌∙◌, subst}
+use Rattle.std.proofs.Common.{◌≡◌, ℕ, List, sym, subst}
 use Rattle.std.specs.Prelude.{Option, None, Some, Result, Ok, Err, IfOk}
 use Rattle.wt_grid.specs.Grid.{Grid}
 use Rattle.wt_tile.specs.declared.tile.Tile.{Tile}
