@@ -15,3 +15,4 @@ pub mod Lifted
 pub mod Behind
 pub mod Counted
 pub mod Lightened
+pub mod Fitting

@@ -17,6 +17,8 @@ mod rows;
 mod script;
 mod session;
 mod spent;
+#[cfg(test)]
+mod tests;
 mod value;
 mod words;
 
