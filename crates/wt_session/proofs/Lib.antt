@@ -16,3 +16,5 @@ pub mod Behind
 pub mod Counted
 pub mod Lightened
 pub mod Fitting
+pub mod One
+pub mod Unspent

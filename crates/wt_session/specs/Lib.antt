@@ -32,3 +32,5 @@ pub mod Census
 pub mod Meaning
 pub mod Ends
 pub mod Runs
+pub mod Values
+pub mod Enough

@@ -1,0 +1,19 @@
+-- What is known of the values that names are bound to.
+use Rattle.std.specs.Prelude.{◌≡◌, ℕ, List, None, Some}
+use Rattle.wt_grid.specs.Grid.{IsGrid}
+use Rattle.wt_tile.specs.Sets.{set_fault}
+use Rattle.wt_chain.specs.Faults.{chain_fault}
+use Rattle.wt_session.specs.declared.value.Value.{Value}
+use Rattle.wt_session.specs.declared.value.Value.TheVariants.{Set, Pattern, Chain}
+use Rattle.wt_session.specs.Sheets.{AreTiles}
+use Rattle.wt_session.specs.Names.{Names, find}
+
+-- A set has no fault, the cells of a pattern over a set are its tiles, and a chain has no fault.
+abbrev pub IsGoodValue : Value → Type 0
+IsGoodValue (Set set) = set_fault set ≡ None
+IsGoodValue (Pattern laid) = IsGrid laid.pattern × AreTiles laid.over laid.pattern
+IsGoodValue (Chain c) = chain_fault c ≡ None
+
+-- each name is bound to such a value
+abbrev pub HasGoodValues : Names → Type 0
+HasGoodValues names = (n : List ℕ) (v : Value) → find n names ≡ Some v → IsGoodValue v
