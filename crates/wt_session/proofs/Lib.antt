@@ -17,4 +17,8 @@ pub mod Counted
 pub mod Lightened
 pub mod Fitting
 pub mod One
+pub mod Decided
+pub mod Powers
+pub mod Tabled
+pub mod Some
 pub mod Unspent

@@ -1,6 +1,7 @@
 // What holds of the names and of the replies of a script.
 ghost use Rattle.std.specs.Prelude.{◌≡◌, ◌≢◌, ℕ, List, Some};
 ghost use Rattle.wt_script.specs.declared.word.Word.{Word};
+ghost use Rattle.wt_script.specs.Fits.{Fits};
 ghost use Rattle.wt_session.specs.declared.value.Value.{Value as Bound};
 ghost use Rattle.wt_session.specs.Names.{Names, find, bind};
 ghost use Rattle.wt_session.specs.Replies.{Reply};
@@ -19,6 +20,11 @@ pub fn bound_names_are_found()
 pub fn replies_are_one()
     ensures { (names : Names) (word : Word) (x y : Reply) → HasGoodValues names → IsEnoughFor names word
         → IsReply names word x → IsReply names word y → x ≡ y }
+{}
+
+/// Every command has a reply: what its meaning asks for is there, whatever the names are bound to.
+pub fn replies_exist()
+    ensures { (names : Names) (word : Word) → HasGoodValues names → Fits word → (reply : Reply) × IsReply names word reply }
 {}
 
 /// A command whose budget is enough doesn't say that it is spent; a command without a budget never does.
