@@ -1,5 +1,5 @@
 -- Two replies of one command are the same, where its budget is enough.
-use Rattle.std.proofs.Common.{arith, ◌≡◌, ◌⊎◌, ◌<◌, ◌≤◌, ℕ, Bool, true, false, List, [], ◌∷◌, length, get_or, drop, slice_get, nat_le, Option, None, Some, option_map, if◌then◌else◌, Result, Ok, Err, inl, inr, refl, sym, subst, ap, ◌∙◌}
+use Rattle.std.proofs.Common.{arith, ◌≡◌, ◌≤◌, ℕ, Bool, true, false, List, [], length, get_or, drop, slice_get, nat_le, Option, None, Some, option_map, if◌then◌else◌, Result, Ok, Err, inl, inr, refl, sym, subst, ap, ◌∙◌}
 use Rattle.std.specs.Prelude.{IfOk, codes}
 use Rattle.std.proofs.lemmas.Bool.{cases_lt, and_parts}
 use Rattle.std.proofs.lemmas.Bool.Decides.{nat_tests}
@@ -15,7 +15,6 @@ use Rattle.wt_tile.specs.declared.tile.Tile.{Tile}
 use Rattle.wt_tile.specs.declared.tile.TileList.{TileList}
 use Rattle.wt_tile.specs.declared.tile.SetFault.{SetFault}
 use Rattle.wt_tile.specs.declared.tile.SetFault.TheVariants as set_faults
-use Rattle.wt_tile.specs.Matching.{matches}
 use Rattle.wt_tile.specs.Sets.{set_fault}
 use Rattle.wt_pattern.specs.declared.fault.Fault.{Fault}
 use Rattle.wt_pattern.specs.Validity.{first_fault}
@@ -25,7 +24,7 @@ use Rattle.wt_step.specs.declared.raw.RawLink.{RawLink}
 use Rattle.wt_step.specs.declared.raw.RawLink.TheVariants.{Marker, Restrict}
 use Rattle.wt_step.specs.declared.coarse.DesubFault.{DesubFault}
 use Rattle.wt_step.specs.declared.coarse.DesubFault.TheVariants as desub_faults
-use Rattle.wt_step.specs.Links.{link_fault, fine_of, coarse_of}
+use Rattle.wt_step.specs.Links.{link_fault, fine_of}
 use Rattle.wt_step.specs.Coarse.{IsDesubstitution, HasMargin, has_margin, desub_fault, cuts_low, cuts_high}
 use Rattle.wt_step.proofs.Goodness.{good_step}
 use Rattle.wt_step.proofs.Restricted.{good_restrict, one_kept}
@@ -47,7 +46,6 @@ use Rattle.wt_window.specs.Surrounded.{IsLeastWindow, surroundable, allowed}
 use Rattle.wt_window.specs.Outcomes.{MayAnswerWindow, MayAnswerTable}
 use Rattle.wt_window.proofs.Windows.{whole_windows}
 use Rattle.wt_marker.specs.declared.end.DeriveEnd.{DeriveEnd}
-use Rattle.wt_marker.specs.declared.end.DeriveEnd.TheVariants as reasons
 use Rattle.wt_marker.specs.Derived.{Plan, plan, derived, derive_fault, MayAnswerStep}
 use Rattle.wt_search.specs.declared.end.SearchEnd.{SearchEnd}
 use Rattle.wt_search.specs.declared.end.SearchEnd.TheVariants as ends

@@ -1,6 +1,6 @@
 -- Every command has a reply.
-use Rattle.std.proofs.Common.{arith, ◌≡◌, ◌⊎◌, ◌<◌, ◌≤◌, ℕ, zero, suc, Bool, true, false, List, [], ◌∷◌, ◌++◌, length, drop, slice_get, Option, None, Some, option_map, if◌then◌else◌, nat_lt, nat_eq, Result, Ok, Err, inl, inr, refl, sym, subst, ap, ◌∙◌}
-use Rattle.std.specs.Prelude.{IfOk, IfSome, codes}
+use Rattle.std.proofs.Common.{arith, ◌≡◌, ◌⊎◌, ◌<◌, ◌≤◌, ℕ, zero, suc, Bool, true, false, List, [], ◌∷◌, ◌++◌, length, drop, slice_get, Option, None, Some, option_map, if◌then◌else◌, nat_lt, nat_eq, Result, Ok, Err, inl, inr, refl, ap, ◌∙◌}
+use Rattle.std.specs.Prelude.{IfOk}
 use Rattle.std.proofs.lemmas.Bool.{cases_lt}
 use Rattle.wt_grid.specs.declared.axis.Axis.{Axis}
 use Rattle.wt_grid.specs.declared.axis.Axis.TheVariants as axes
@@ -39,7 +39,7 @@ use Rattle.wt_chain.proofs.Grown.{few_coarse}
 use Rattle.wt_refute.specs.Refutation.{node_count}
 use Rattle.wt_marker.specs.declared.end.DeriveEnd.{DeriveEnd}
 use Rattle.wt_marker.specs.declared.end.DeriveEnd.TheVariants as reasons
-use Rattle.wt_marker.specs.Derived.{Plan, plan, derived, derive_fault, images_fault, trees_fault, first_spent, spent_at, refuted_pairs, tree_at, images_of, repeated_pair, MayAnswerStep}
+use Rattle.wt_marker.specs.Derived.{Plan, plan, derived, derive_fault, images_fault, trees_fault, spent_at, refuted_pairs, tree_at, images_of, repeated_pair, MayAnswerStep}
 use Rattle.wt_window.specs.Surrounded.{IsFirstMatch}
 use Rattle.wt_window.specs.Outcomes.{HasNoMatch}
 use Rattle.wt_search.specs.declared.end.SearchEnd.{SearchEnd}
@@ -55,7 +55,7 @@ use Rattle.wt_session.specs.declared.value.Value.TheVariants.{Set, Pattern, Chai
 use Rattle.wt_session.specs.Sheets.{Laid, AreTiles}
 use Rattle.wt_session.specs.Names.{Names, find}
 use Rattle.wt_session.specs.Values.{IsGoodValue, HasGoodValues}
-use Rattle.wt_session.specs.Replies.{Reply, says, spent, pattern_in, set_in, value_in, chain_named, pattern_named, set_named, value_named}
+use Rattle.wt_session.specs.Replies.{Reply, spent, pattern_in, set_in, value_in, chain_named, pattern_named, set_named, value_named}
 use Rattle.wt_session.specs.Tiles.{IsTilesReplyBy}
 use Rattle.wt_session.specs.Desub.{IsTakenReply, IsSetReply, IsStepReply, IsOverReply, IsDesubOf, IsDesubIn, coarse_reply}
 use Rattle.wt_session.specs.Tables.{spent_text}

@@ -15,20 +15,19 @@ use Rattle.wt_lane.proofs.Bits.{no_bit}
 use Rattle.wt_mask.proofs.Bits.{set_bit_at}
 use Rattle.wt_window.specs.declared.window.WindowEnd.{WindowEnd}
 use Rattle.wt_window.specs.declared.window.WindowEnd.TheVariants as window_ends
-use Rattle.wt_window.specs.declared.domino_table.TableEnd.{TableEnd}
 use Rattle.wt_window.specs.declared.domino_table.TableEnd.TheVariants as table_ends
-use Rattle.wt_window.specs.Trials.{trials, window, cells, fillings, IsFilling}
+use Rattle.wt_window.specs.Trials.{window, cells, fillings, IsFilling}
 use Rattle.wt_window.specs.Surrounded.{surroundable, Tells, allowed, IsRow, IsFirstMatch, IsLeastWindow}
-use Rattle.wt_window.specs.Outcomes.{HasNoMatch, IsSpentPair, MayAnswerTable, MayAnswerWindow}
+use Rattle.wt_window.specs.Outcomes.{HasNoMatch, IsSpentPair, MayAnswerWindow}
 use Rattle.wt_window.proofs.Members.{In}
 use Rattle.wt_window.proofs.Listed.{listed, listing, is_wide}
-use Rattle.wt_window.proofs.Windows.{whole_windows, empty_windows}
+use Rattle.wt_window.proofs.Windows.{empty_windows}
 use Rattle.wt_window.proofs.Found.{least_found}
 use Rattle.wt_window.proofs.Searched.{trials_some}
 use Rattle.wt_window.proofs.Tabled.{row_with, row_without, AreRows, rows_more, table_exact}
 use Rattle.wt_window.proofs.Outcomes.{tested, unmatched, at_zero}
 use Rattle.wt_session.specs.Replies.{Reply, says, spent}
-use Rattle.wt_session.specs.Tables.{AsksTable, AsksTables, IsTableReply, spent_text}
+use Rattle.wt_session.specs.Tables.{AsksTable, AsksTables, spent_text}
 use Rattle.wt_session.specs.Surround.{IsWindowReply, window_text}
 use Rattle.wt_session.proofs.Decided.{Dec, least_below, some_below, IsLeast}
 

@@ -1,5 +1,5 @@
 -- Where its budget is enough, no command says that it is spent.
-use Rattle.std.proofs.Common.{arith, ◌≡◌, ◌<◌, ◌≤◌, ℕ, zero, suc, Bool, true, false, List, [], ◌∷◌, ◌++◌, length, get_or, drop, slice_get, nat_lt, nat_eq, Option, None, Some, option_map, if◌then◌else◌, Result, Ok, Err, inl, inr, refl, sym, subst, ap, ◌∙◌}
+use Rattle.std.proofs.Common.{arith, ◌≡◌, ◌<◌, ℕ, suc, Bool, true, false, List, [], ◌∷◌, ◌++◌, length, get_or, drop, slice_get, nat_lt, nat_eq, Option, None, Some, option_map, if◌then◌else◌, Result, Ok, Err, inr, refl, sym, subst, ap, ◌∙◌}
 use Rattle.std.specs.Prelude.{ℤ, IfOk, IfErr, codes}
 use Rattle.std.proofs.lemmas.Bool.Decides.{nat_tests}
 use Rattle.wt_line.specs.declared.faults.What.{What}
@@ -23,7 +23,6 @@ use Rattle.wt_pattern.specs.declared.drawing.Style.{Style}
 use Rattle.wt_pattern.specs.Drawings.{drawing_of}
 use Rattle.wt_pattern.specs.PatternRows.{pattern_lines}
 use Rattle.wt_pattern.specs.Validity.{first_stranger}
-use Rattle.wt_step.specs.declared.raw.RawStep.{RawStep}
 use Rattle.wt_step.specs.declared.raw.RawLink.{RawLink}
 use Rattle.wt_step.specs.declared.raw.RawLink.TheVariants.{Marker}
 use Rattle.wt_step.specs.declared.coarse.DesubFault.{DesubFault}
@@ -72,10 +71,10 @@ use Rattle.wt_session.specs.Pattern.{placed, placed_over}
 use Rattle.wt_session.specs.Valid.{valid_over, valid_of}
 use Rattle.wt_session.specs.Period.{period_of}
 use Rattle.wt_session.specs.Check.{judged, checked, check_reply}
-use Rattle.wt_session.specs.Fuse.{fused_in, fuse_in, fuse_of, fused_text}
+use Rattle.wt_session.specs.Fuse.{fused_in, fuse_of, fused_text}
 use Rattle.wt_session.specs.Cert.{cert_of}
 use Rattle.wt_session.specs.Expand.{expanded, expand_of}
-use Rattle.wt_session.specs.Image.{image_text, image_in, image_by, image_of}
+use Rattle.wt_session.specs.Image.{image_text, image_by, image_of}
 use Rattle.wt_session.specs.Desub.{IsTakenReply, IsSetReply, IsStepReply, IsOverReply, IsDesubOf, IsDesubIn}
 use Rattle.wt_session.specs.Bound.{size_reply, bound_of}
 use Rattle.wt_session.specs.Draw.{drawn, draw_of}
