@@ -23,6 +23,7 @@ mod value;
 mod words;
 
 pub use laws::{bound_names_are_found, enough_budgets, replies_are_one, replies_exist};
+pub use levels::end_fault;
 pub use reply::CommandFault;
 pub use script::run_all;
 pub use session::Session;
