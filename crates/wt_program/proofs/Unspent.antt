@@ -25,7 +25,7 @@ use Rattle.wt_scale.specs.declared.size.SizeFault.TheVariants as why
 use Rattle.wt_program.specs.declared.reply.Reply.{Reply}
 use Rattle.wt_program.specs.declared.reply.Reply.TheVariants.{Answered, Limit}
 use Rattle.wt_line.specs.Signed.{signed_value}
-use Rattle.wt_program.specs.Commands.{Command, check, run, desub, bound, expand, periodic, strip, strip_check, has_budget}
+use Rattle.wt_program.specs.Commands.{Command, check, run, desub, bound, expand, periodic, strip, strip_check, sample, has_budget}
 use Rattle.wt_program.specs.Replies.{said}
 use Rattle.wt_program.specs.Faults.{fault_reply}
 use Rattle.wt_program.specs.Checks.{chain_of, judged_by, accepted_read, reply_or, report_reply}
@@ -148,3 +148,4 @@ unspent (expand w h) bytes reply none is = said_as reply _ is (unspent_read (exp
 unspent (periodic n b) bytes reply none is = absurd cc
 unspent (strip w h) bytes reply none is = unspent_set (IsLayersReply (value_from 0 w) (value_from 0 h)) (unspent_layers (value_from 0 w) (value_from 0 h)) (whole_text set_part (lines bytes)) reply is
 unspent strip_check bytes reply none is = unspent_read_layers (set_and_layers bytes) reply is
+unspent (sample n) bytes reply none is = absurd cc

@@ -12,7 +12,7 @@ use wt_seq::Seq;
 use wt_session::run_all;
 
 /// A text, by the status with which a script ends.
-fn by_status(status: u8, text: Seq<u8>) -> Reply
+pub fn by_status(status: u8, text: Seq<u8>) -> Reply
     ensures { result ≡ spec.by_status status text }
 {
     if status == ANSWERED {

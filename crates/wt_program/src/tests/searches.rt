@@ -1,16 +1,12 @@
 // What a search finds, through its certificate.
+use crate::u::u;
 use std::alloc::Global;
 use std::test::Fail;
 use wt_cert::{read_cert, write_cert};
 use wt_chain::{Accepted, End};
 use wt_check::{check, report};
-use wt_pattern::read_set;
 use wt_search::search;
 use wt_tile::{Axis, SetRef, Side};
-
-/// The set of examples/U.set.
-const U: &[u8] =
-    b"F O J O\nF O H L\nJ M F P\nD M F K\nH P J P\nH P H N\nH K F P\nH K D P\nB O I O\nG L E O\nG L C L\nA L I O\nE P G P\nE P I P\nI P G K\nI P I K\nI K B M\nI K A K\nC N I P\n";
 
 /// The tiles of the first set to which those of the last are renamed.
 const RENAMING: [u16; 19] = [
@@ -19,7 +15,7 @@ const RENAMING: [u16; 19] = [
 
 /// The chain of U, where it is found.
 fn found(alloc: Global) -> Option<Accepted> {
-    let list = read_set(alloc, U, 19).ok()?;
+    let list = u(alloc).ok()?;
     let set = SetRef::new(&list).ok()?;
     let axes = [Axis::One, Axis::Two];
     search(alloc, set, &axes, Side::After, 1, 8, 1_000_000_000_000).ok()
