@@ -28,8 +28,9 @@ pub(crate) struct Back {
     pub planes: Option<Seq<HalfPlane>>,
 }
 
-// The half-plane that holds where this one holds after a move along the axis, or that a number is out of limit.
-fn moved(axis: Axis, step: Golden, h: &HalfPlane) -> Result<HalfPlane, TooLarge>
+/// The half-plane that holds where this one holds after a move along the axis, or that a number is out of limit. Takes no
+/// memory.
+pub fn moved(axis: Axis, step: Golden, h: &HalfPlane) -> Result<HalfPlane, TooLarge>
     ensures { MatchResult result
         (λ g. (g ≡ reduced_half (moved_along axis step h.now)) × (is_small_half (reduced_half (moved_along axis step h.now)) ≡ true))
         (λ _. is_small_half (reduced_half (moved_along axis step h.now)) ≡ false) }

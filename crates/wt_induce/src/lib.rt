@@ -13,6 +13,10 @@ mod meeting;
 mod tests;
 mod zones;
 
+pub use backs::moved;
 pub use fault::InduceFault;
 pub use inducing::induce;
 pub use laws::{codes_are_images, codes_have_blocks};
+pub use zones::{
+    beneath, between, beyond, difference, is_half, is_less_than_half, length_of, move_of, zero,
+};

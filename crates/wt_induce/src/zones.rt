@@ -14,6 +14,7 @@ ghost use Rattle.wt_induce.specs.Faults.{is_small_half, window_fits, zones_fault
 ghost use Rattle.wt_induce.specs.Zones.{twice, low_frame, high_frame, frame_on, zero_fraction};
 ghost use Rattle.wt_induce.specs.Zones as words;
 ghost use Rattle.wt_induce.specs.Kept.{IsZones};
+ghost use Rattle.wt_induce.specs.Law as law;
 
 use crate::InduceFault;
 use wt_golden::{Golden, Parts, TooLarge, Wide};
@@ -45,7 +46,7 @@ pub(crate) struct Zones {
 }
 
 /// The side of the box along an axis.
-fn length_of(axis: Axis, torus: &Torus) -> Golden
+pub fn length_of(axis: Axis, torus: &Torus) -> Golden
     ensures value { result ≡ boxes.length_of axis torus.now }
     ensures golden { IsGolden result }
 {
@@ -57,7 +58,7 @@ fn length_of(axis: Axis, torus: &Torus) -> Golden
 }
 
 /// The move along an axis.
-pub(crate) fn move_of(axis: Axis, torus: &Torus) -> Golden
+pub fn move_of(axis: Axis, torus: &Torus) -> Golden
     ensures value { result ≡ boxes.move_of axis torus.now }
     ensures golden { IsGolden result }
 {
@@ -112,8 +113,8 @@ fn is_above(x: Wide, y: Wide) -> bool
     is_positive(x.minus(y))
 }
 
-// Whether twice the move is less than the length.
-fn is_less_than_half(length: Golden, step: Golden) -> bool
+/// Whether twice the move is less than the length. Takes no memory.
+pub fn is_less_than_half(length: Golden, step: Golden) -> bool
     ensures { result ≡ boxes.is_below (fractions.top (twice step)) (twice step).d length }
 {
     is_above(length_side(length, step), move_side(length, step))
@@ -126,7 +127,8 @@ fn is_more_than_half(length: Golden, step: Golden) -> bool
     is_above(move_side(length, step), length_side(length, step))
 }
 
-fn difference(f: Golden, g: Golden) -> Result<Golden, TooLarge>
+/// The difference of two numbers, or that it is out of limit. Takes no memory.
+pub fn difference(f: Golden, g: Golden) -> Result<Golden, TooLarge>
     ensures { MatchResult result
         (λ d. (d ≡ lowest (fractions.difference f g)) × (is_within (lowest (fractions.difference f g)) ≡ true))
         (λ _. is_within (lowest (fractions.difference f g)) ≡ false) }
@@ -182,7 +184,7 @@ fn frame_of(length: Golden, step: Golden) -> Result<Frame, TooLarge>
 
 /// The number 0.
 #[tactic(auto, unfolding(wt_golden::specs::Fractions::lowest, wt_golden::specs::Fractions::gcd))]
-pub(crate) fn zero() -> Golden
+pub fn zero() -> Golden
     ensures { result ≡ zero_fraction }
 {
     Golden::kept(Parts { a: 0, b: 0, d: 1 })
@@ -200,8 +202,8 @@ fn opposite_top(f: Golden) -> Wide
     }
 }
 
-/// The coordinates along the axis beyond f, or that a number is out of limit.
-fn beyond(axis: Axis, f: Golden) -> Result<HalfPlane, TooLarge>
+/// The half-plane of the coordinates along the axis beyond f, or that a number is out of limit. Takes no memory.
+pub fn beyond(axis: Axis, f: Golden) -> Result<HalfPlane, TooLarge>
     ensures { MatchResult result
         (λ h. (h ≡ reduced_half (words.beyond axis f)) × (is_small_half (reduced_half (words.beyond axis f)) ≡ true))
         (λ _. is_small_half (reduced_half (words.beyond axis f)) ≡ false) }
@@ -212,8 +214,8 @@ fn beyond(axis: Axis, f: Golden) -> Result<HalfPlane, TooLarge>
     }
 }
 
-/// The coordinates along the axis beneath f, or that a number is out of limit.
-fn beneath(axis: Axis, f: Golden) -> Result<HalfPlane, TooLarge>
+/// The half-plane of the coordinates along the axis beneath f, or that a number is out of limit. Takes no memory.
+pub fn beneath(axis: Axis, f: Golden) -> Result<HalfPlane, TooLarge>
     ensures { MatchResult result
         (λ h. (h ≡ reduced_half (words.beneath axis f)) × (is_small_half (reduced_half (words.beneath axis f)) ≡ true))
         (λ _. is_small_half (reduced_half (words.beneath axis f)) ≡ false) }
@@ -224,7 +226,9 @@ fn beneath(axis: Axis, f: Golden) -> Result<HalfPlane, TooLarge>
     }
 }
 
-fn between(axis: Axis, low: Golden, high: Golden) -> Result<[HalfPlane; 2], TooLarge>
+/// The two half-planes of the coordinates along the axis from low to high, or that a number is out of limit. Takes no
+/// memory.
+pub fn between(axis: Axis, low: Golden, high: Golden) -> Result<[HalfPlane; 2], TooLarge>
     ensures { MatchResult result
         (λ h. (h ≡ words.between axis low high) × (list_all is_small_half (words.between axis low high) ≡ true))
         (λ _. list_all is_small_half (words.between axis low high) ≡ false) }
@@ -269,18 +273,25 @@ fn both_zones(axis: Axis, w: Frame) -> Result<Zones, TooLarge>
     }
 }
 
+/// Whether twice the move along an axis is the length. Takes no memory.
+pub fn is_half(axis: Axis, torus: &Torus) -> bool
+    ensures { result ≡ law.is_half axis torus.now }
+{
+    let length = length_of(axis, torus);
+    let step = move_of(axis, torus);
+    !is_less_than_half(length, step) && !is_more_than_half(length, step)
+}
+
 /// The window and the zones of an axis, or why they can't be had: `Half`, then `TooLarge`.
 pub(crate) fn zones_on(axis: Axis, torus: &Torus) -> Result<Zones, InduceFault>
     ensures { MatchResult result
         (λ z. IsZones axis torus.now z × (zones_fault axis torus.now ≡ None))
         (λ e. zones_fault axis torus.now ≡ Some e) }
 {
-    let length = length_of(axis, torus);
-    let step = move_of(axis, torus);
-    if !is_less_than_half(length, step) && !is_more_than_half(length, step) {
+    if is_half(axis, torus) {
         return Err(InduceFault::Half);
     }
-    let Ok(w) = frame_of(length, step) else {
+    let Ok(w) = frame_of(length_of(axis, torus), move_of(axis, torus)) else {
         return Err(InduceFault::TooLarge);
     };
     match both_zones(axis, w) {
