@@ -1,0 +1,15 @@
+pub mod Held
+pub mod Shared
+pub mod Turned
+pub mod Valid
+pub mod Beside
+pub mod Blocks
+pub mod Marked
+pub mod Agreement
+pub mod Desubstituted
+pub mod Faultless
+pub mod Chunks
+pub mod Counted
+pub mod Edged
+pub mod Limits
+pub mod Examples
