@@ -1,0 +1,9 @@
+pub mod First
+pub mod Exact
+pub mod Follows
+pub mod FormLaws
+pub mod Open
+pub mod RowReads
+pub mod ReaderLaws
+pub mod Shaped
+pub mod DesubInputs
