@@ -1,12 +1,12 @@
 -- The fault that is found is the one that the grammar means, and each such fault is found.
-use Rattle.std.proofs.Common.{rules, arith, ◌≡◌, ℕ, zero, suc, ◌+◌, List, [], ◌∷◌, ◌++◌, length, Option, Some, None, Bool, true, false, ◌&&◌, cond, refl, sym, ap, ◌∙◌, subst}
+use Rattle.std.proofs.Common.{arith, ◌≡◌, ℕ, ◌+◌, List, [], ◌∷◌, ◌++◌, length, Option, Some, None, Bool, true, false, ◌&&◌, cond, refl, sym, ap, ◌∙◌, subst}
 use Rattle.std.proofs.lemmas.Bool.{and_parts}
 use Rattle.wt_line.specs.declared.faults.What.{What}
 use Rattle.wt_text.specs.Words.{tokens}
 use Rattle.wt_text.specs.Lines.{Line}
 use Rattle.wt_text.specs.Readers.{TextFault, syntax_at, limit_at}
-use Rattle.wt_faults.specs.Grammars.{Grammar, ends, line, Quantity, first_past, IsText, behind_line, passed_by}
-use Rattle.wt_faults.specs.Meaning.{CanGoOn, behind_lines, IsWithin, StopsAt, IsSyntaxFault, IsLimitFault, IsFaultOf}
+use Rattle.wt_faults.specs.Grammars.{Grammar, ends, line, Quantity, first_past, IsText, passed_by}
+use Rattle.wt_faults.specs.Meaning.{CanGoOn, behind_lines, IsWithin, StopsAt, IsFaultOf}
 use Rattle.wt_faults.proofs.First.{past_or, first_fault, IsOpen}
 
 -- an open grammar has a text

@@ -1,5 +1,5 @@
 -- The first fault of a text over its grammar, found line by line.
-use Rattle.std.proofs.Common.{ℕ, zero, suc, ◌+◌, List, [], ◌∷◌, ◌++◌, Option, Some, None, Bool, true, false, ◌&&◌, ◌≡◌, cond}
+use Rattle.std.proofs.Common.{ℕ, ◌+◌, List, [], ◌∷◌, Option, Some, None, true, ◌&&◌, ◌≡◌, cond}
 use Rattle.wt_line.specs.declared.faults.What.{What}
 use Rattle.wt_text.specs.Words.{tokens}
 use Rattle.wt_text.specs.Lines.{Line}

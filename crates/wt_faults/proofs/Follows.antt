@@ -1,10 +1,10 @@
 -- Readers that follow a grammar.
-use Rattle.std.proofs.Common.{rules, arith, ◌≡◌, ℕ, zero, suc, ◌+◌, List, [], ◌∷◌, ◌++◌, Option, Some, None, Bool, true, false, ◌&&◌, cond, Result, Ok, Err, refl, sym, ap, ◌∙◌, subst}
+use Rattle.std.proofs.Common.{◌≡◌, ℕ, zero, suc, ◌+◌, List, [], ◌∷◌, Option, Some, None, Bool, true, false, ◌&&◌, cond, Result, Ok, Err, refl, sym, ap, ◌∙◌}
 use Rattle.wt_line.specs.declared.faults.What.{What}
 use Rattle.wt_text.specs.Words.{tokens}
 use Rattle.wt_text.specs.Lines.{Line}
-use Rattle.wt_text.specs.Readers.{◌then◌, LineFault, wrong, past, TextFault, syntax_at, limit_at, line_read, line_at, one_line, both_parts, many_parts, counted_parts, ended_here, whole_text, seen_as, part_by, part_behind, no_part}
-use Rattle.wt_faults.specs.Grammars.{Grammar, ends, line, Quantity, first_past, has_form, quantities, going_on, one, many}
+use Rattle.wt_text.specs.Readers.{◌then◌, LineFault, wrong, past, TextFault, syntax_at, line_read, line_at, one_line, both_parts, many_parts, counted_parts, ended_here, whole_text, seen_as, part_by, part_behind, no_part}
+use Rattle.wt_faults.specs.Grammars.{Grammar, ends, Quantity, first_past, has_form, quantities, going_on, one, many, many_in_turn}
 use Rattle.wt_faults.proofs.First.{past_or, first_fault}
 
 -- the fault of a part, or what comes behind it
@@ -139,3 +139,34 @@ whole_read {A} {read} {part} f = λ ls. f.same (λ x. ends) (1, ls) ∙ by (read
     by : (r : Result (A × (ℕ × List Line)) (TextFault What)) → outcome (λ x n ls. first_fault ends n ls) r ≡ fault_of (r then λ x. ended_here x.0 x.1.0 x.1.1)
     by (Ok x) = end x.0 x.1.0 x.1.1
     by (Err e) = refl
+
+-- ---- parts that go by what was read before
+
+-- what comes behind a part may be said in another way, for what was read
+same_where : {A : Type 0} (f g : A → ℕ → List Line → Option (TextFault What)) (r : Result (A × (ℕ × List Line)) (TextFault What)) → ((x : A) (n : ℕ) (ls : List Line) → r ≡ Ok (x, (n, ls)) → f x n ls ≡ g x n ls) → outcome f r ≡ outcome g r
+same_where f g (Ok x) same = same x.0 x.1.0 x.1.1 refl
+same_where f g (Err e) same = refl
+
+module _ {A S : Type 0} {read : S → ℕ × List Line → Result (A × (ℕ × List Line)) (TextFault What)} {part : S → (A → Grammar) → Grammar} (left : S → A → S) (Can : S → ℕ → Type 0)
+    (f : (s : S) (n : ℕ) → Can s (suc n) → IsRead (read s) (part s)) (keep : (s : S) (x : A) (n : ℕ) → Can s (suc n) → Can (left s x) n) where
+  pub turn_read : (s : S) (n : ℕ) → Can s n → IsRead (many_parts read left s n) (many_in_turn part left s n)
+  turn_read s zero can = record { same = λ later p. refl }
+  turn_read s (suc n) can = record {
+    same = λ later p.
+        (f s n can).same (λ x. many_in_turn part left (left s x) n (λ xs. later (x ∷ xs))) p
+        ∙ same_outcome _ (λ x m ls. outcome (λ y k more. first_fault (later y) k more) (many_parts read left (left s x) n (m, ls) then λ xs. Ok (x ∷ xs.0, xs.1))) (read s p)
+        (λ x m ls. (turn_read (left s x) n (keep s x n can)).same (λ xs. later (x ∷ xs)) (m, ls)
+        ∙ sym (then_outcome (λ y k more. first_fault (later y) k more) (many_parts read left (left s x) n (m, ls)) (λ xs. Ok (x ∷ xs.0, xs.1))))
+        ∙ sym (then_outcome (λ y k more. first_fault (later y) k more) (read s p) (λ a. many_parts read left (left s a.0) n a.1 then λ as'. Ok (a.0 ∷ as'.0, as'.1)));
+  }
+
+-- a count, and so many parts that follow their grammar where the count is one that can be read
+pub counted_read : {A S : Type 0} {count : ℕ × List Line → Result (ℕ × (ℕ × List Line)) (TextFault What)} {counts : (ℕ → Grammar) → Grammar} (read : S → ℕ × List Line → Result (A × (ℕ × List Line)) (TextFault What)) (parts : ℕ → (List A → Grammar) → Grammar) (left : S → A → S) (s : S)
+    → IsRead count counts → ((p q : ℕ × List Line) (n : ℕ) → count p ≡ Ok (n, q) → IsRead (many_parts read left s n) (parts n)) → IsRead (counted_parts count read left s) (λ next. counts (λ n. parts n next))
+unfolding counted_parts
+counted_read {A} {S} {count} {counts} read parts left s f g = record {
+  same = λ next p.
+      f.same (λ n. parts n next) p
+      ∙ same_where _ (λ x n ls. outcome (λ y m more. first_fault (next y) m more) (many_parts read left s x (n, ls))) (count p) (λ x n ls e. (g p (n, ls) x e).same next (n, ls))
+      ∙ sym (then_outcome (λ y m more. first_fault (next y) m more) (count p) (λ n. many_parts read left s n.0 n.1));
+}

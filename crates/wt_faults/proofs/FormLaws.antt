@@ -1,9 +1,9 @@
 -- Readers of tokens give what their form says, or the first limit that is passed.
-use Rattle.std.proofs.Common.{rules, arith, ◌≡◌, ℕ, zero, suc, List, [], ◌∷◌, ◌++◌, Option, Some, None, Bool, true, false, cond, nat_le, nat_eq, Result, Ok, Err, refl, sym, ap, ◌∙◌, subst}
+use Rattle.std.proofs.Common.{◌≡◌, ℕ, zero, suc, List, [], ◌∷◌, ◌++◌, Option, Some, None, Bool, true, false, cond, nat_le, nat_eq, Result, Ok, Err, refl, sym, ap, ◌∙◌}
 use Rattle.wt_line.specs.declared.faults.What.{What}
 use Rattle.wt_line.specs.Limits.{number_from_one}
 use Rattle.wt_text.specs.Words.{number}
-use Rattle.wt_text.specs.Readers.{◌>>=◌, pair, after, within, number_to, value_behind, both, value_in_front, LineFault, wrong, past, judged, judge, whole}
+use Rattle.wt_text.specs.Readers.{◌>>=◌, pair, after, within, number_to, value_behind, both, value_in_front, LineFault, wrong, judged, judge, whole}
 use Rattle.wt_names.specs.Rows.{is_name, name_word}
 use Rattle.wt_pattern.specs.PatternRows.{times}
 use Rattle.wt_faults.specs.Grammars.{Quantity, first_past}
@@ -24,7 +24,7 @@ tokens_say (Some x) = Some (held x.0.0 (first_past x.0.1), x.1)
 pub record IsSaid {A : Type 0} (read : List (List ℕ) → Option (Result A What × List (List ℕ))) (form : List (List ℕ) → Option ((A × List Quantity) × List (List ℕ))) : Type 0 where
   pub same : (ts : List (List ℕ)) → read ts ≡ tokens_say (form ts)
 
-within_held : (most : ℕ) (what : What) (n : ℕ) → within most what n ≡ held n (first_past (quantity what most n ∷ []))
+pub within_held : (most : ℕ) (what : What) (n : ℕ) → within most what n ≡ held n (first_past (quantity what most n ∷ []))
 within_held most what n = by (nat_le n most)
   where
     by : (b : Bool) → cond b (Ok n) (Err what) ≡ held n (cond b None (Some what))
@@ -78,10 +78,7 @@ behind_said {read = read} {form = form} w law = record { same = λ ts. by (after
     by (Some ts) = law.same ts
 
 -- the limits of the first come before those of the second
-past_both : (qs rs : List Quantity) → first_past (qs ++ rs) ≡ first_past qs → first_past (qs ++ rs) ≡ first_past qs
-past_both qs rs e = e
-
-past_left : (qs rs : List Quantity) (what : What) → first_past qs ≡ Some what → first_past (qs ++ rs) ≡ Some what
+pub past_left : (qs rs : List Quantity) (what : What) → first_past qs ≡ Some what → first_past (qs ++ rs) ≡ Some what
 past_left [] rs what e = absurd cc
 past_left (q ∷ qs) rs what e = by (nat_le q.size q.most) (past_left qs rs what) e
   where
@@ -89,7 +86,7 @@ past_left (q ∷ qs) rs what e = by (nat_le q.size q.most) (past_left qs rs what
     by true later k = later k
     by false later k = k
 
-past_right : (qs rs : List Quantity) → first_past qs ≡ None → first_past (qs ++ rs) ≡ first_past rs
+pub past_right : (qs rs : List Quantity) → first_past qs ≡ None → first_past (qs ++ rs) ≡ first_past rs
 past_right [] rs e = refl
 past_right (q ∷ qs) rs e = by (nat_le q.size q.most) (past_right qs rs) e
   where

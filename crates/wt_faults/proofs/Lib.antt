@@ -6,4 +6,10 @@ pub mod Open
 pub mod RowReads
 pub mod ReaderLaws
 pub mod Shaped
+pub mod TokenLaws
+pub mod TreeFormLaws
+pub mod TreeLimitLaws
+pub mod CertReads
+pub mod Numerals
+pub mod CertOpen
 pub mod DesubInputs

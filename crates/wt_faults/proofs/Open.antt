@@ -1,20 +1,19 @@
 -- Grammars whose forms have lines.
-use Rattle.std.proofs.Common.{rules, arith, ◌≡◌, ℕ, zero, suc, ◌≤◌, List, [], ◌∷◌, ◌++◌, Option, Some, None, Bool, true, false, cond, nat_eq, refl, sym, ap, ◌∙◌, subst}
+use Rattle.std.proofs.Common.{rules, arith, ◌≡◌, ℕ, zero, suc, ◌≤◌, List, [], ◌∷◌, Option, Some, None, Bool, true, false, cond, nat_eq, refl, sym, ap, ◌∙◌}
 use Rattle.std.specs.Prelude.{codes}
 use Rattle.std.proofs.lemmas.Bool.{eqb-false}
 use Rattle.wt_line.specs.declared.limits.TheConstants.{MOST}
-use Rattle.wt_line.specs.declared.faults.What.{What}
 use Rattle.wt_line.specs.declared.faults.What.TheVariants.{Number, Width, Height}
-use Rattle.wt_text.specs.Words.{tokens, spaced, number}
-use Rattle.wt_text.specs.Lines.{Line, line_of}
-use Rattle.wt_text.specs.Readers.{◌>>=◌, after}
+use Rattle.wt_text.specs.Words.{tokens, number}
+use Rattle.wt_text.specs.Lines.{line_of}
+use Rattle.wt_text.specs.Readers.{after}
 use Rattle.wt_text.specs.Spellings.{IsClean, AllFit, IsNotEmpty}
 use Rattle.wt_text.proofs.Split.{tokens_spaced}
 use Rattle.wt_text.proofs.Numbers.{some_is}
 use Rattle.wt_text.proofs.Formats.{bind_some}
 use Rattle.wt_pattern.specs.TileRows.{row_edges}
-use Rattle.wt_faults.specs.Grammars.{Grammar, ends, line, Quantity, has_form, quantities, going_on, one, many}
-use Rattle.wt_faults.specs.Forms.{quantity, a_number, a_number_from_one, behind_word, two, no_more, so_many, alone}
+use Rattle.wt_faults.specs.Grammars.{Grammar, ends, Quantity, has_form, going_on, one, many}
+use Rattle.wt_faults.specs.Forms.{quantity, a_number, a_number_from_one, behind_word, two, no_more, so_many}
 use Rattle.wt_faults.specs.Rows.{names_line, names_part, set_grammar, cells_line, cells_grammar, shape_line, rows_grammar, pattern_grammar}
 use Rattle.wt_faults.proofs.First.{IsOpen}
 

@@ -1,10 +1,10 @@
 -- A reader that follows an open grammar has its faults.
-use Rattle.std.proofs.Common.{◌≡◌, ℕ, List, Option, Some, None, Result, Ok, Err, refl, sym, ap, ◌∙◌, subst}
+use Rattle.std.proofs.Common.{◌≡◌, ℕ, List, Some, None, Result, Ok, Err, refl, sym, ap, ◌∙◌}
 use Rattle.wt_line.specs.declared.faults.What.{What}
 use Rattle.wt_text.specs.Lines.{Line}
 use Rattle.wt_text.specs.Readers.{TextFault, whole_text}
-use Rattle.wt_faults.specs.Grammars.{Grammar, ends, IsText}
-use Rattle.wt_faults.specs.Meaning.{IsWithin, IsFaultOf, HasFaultsOf}
+use Rattle.wt_faults.specs.Grammars.{Grammar, ends}
+use Rattle.wt_faults.specs.Meaning.{HasFaultsOf}
 use Rattle.wt_faults.proofs.First.{first_fault, IsOpen}
 use Rattle.wt_faults.proofs.Exact.{told, found, text_told, text_found}
 use Rattle.wt_faults.proofs.Follows.{fault_of, IsRead, whole_read}

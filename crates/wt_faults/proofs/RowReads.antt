@@ -1,15 +1,12 @@
 -- The readers of sets and patterns follow their grammars.
-use Rattle.std.proofs.Common.{rules, arith, ◌≡◌, ℕ, ◌≤◌, List, Option, Some, None, Result, Ok, Err, refl, sym, ap, ◌∙◌}
+use Rattle.std.proofs.Common.{ℕ}
 use Rattle.std.specs.Prelude.{codes}
-use Rattle.wt_line.specs.declared.faults.What.{What}
 use Rattle.wt_line.specs.declared.faults.What.TheVariants.{Number, Width, Height}
-use Rattle.wt_text.specs.Lines.{Line}
-use Rattle.wt_text.specs.Readers.{TextFault, whole_text}
 use Rattle.wt_names.specs.Rows.{row_form}
-use Rattle.wt_pattern.specs.TileRows.{no_state, row_edges, rows_list, row_part, tile_rows}
-use Rattle.wt_pattern.specs.PatternRows.{cells_form, cells_rows, rows_grid, pattern_rows, shape_form, only_rows, pattern_part}
-use Rattle.wt_faults.specs.Grammars.{Grammar, ends, Quantity, one, many}
-use Rattle.wt_faults.specs.Rows.{names_line, names_part, set_grammar, cells_line, cells_grammar, shape_line, rows_grammar, shaped_grammar, pattern_grammar}
+use Rattle.wt_pattern.specs.TileRows.{no_state, row_edges, rows_list, tile_rows}
+use Rattle.wt_pattern.specs.PatternRows.{cells_rows, rows_grid, pattern_rows, only_rows, pattern_part}
+use Rattle.wt_faults.specs.Grammars.{many}
+use Rattle.wt_faults.specs.Rows.{names_line, names_part, cells_grammar, shaped_grammar}
 use Rattle.wt_faults.proofs.Follows.{IsRead, IsOfForm, one_read, seen_read, by_read, many_read}
 use Rattle.wt_faults.proofs.FormLaws.{number_said, from_one_said, name_said, behind_said, both_said, times_said, whole_said}
 

@@ -1,23 +1,22 @@
 -- The text of a pattern with its width and height, both ways.
-use Rattle.std.proofs.Common.{rules, arith, ◌≡◌, ℕ, ◌≤◌, ◌<◌, ◌^◌, Bool, true, false, cond, nat_eq, List, [], ◌∷◌, ◌++◌, length, Option, Some, None, Result, Ok, Err, refl, sym, ap, ◌∙◌, append_assoc, subst}
+use Rattle.std.proofs.Common.{rules, arith, ◌≡◌, ℕ, ◌≤◌, ◌<◌, ◌^◌, Bool, true, false, cond, nat_eq, List, [], ◌∷◌, ◌++◌, Option, Some, None, Result, Ok, refl, sym, ap, ◌∙◌, append_assoc, subst}
 use Rattle.std.specs.Prelude.{codes}
 use Rattle.std.specs.Fmt.{decimal}
 use Rattle.std.proofs.lemmas.Bool.{eqb-false}
 use Rattle.std.proofs.lemmas.Bool.Decides.{nat_tests}
-use Rattle.wt_grid.specs.Grid.{Grid, IsGrid}
+use Rattle.wt_grid.specs.Grid.{Grid}
 use Rattle.wt_line.specs.declared.faults.What.{What}
 use Rattle.wt_line.specs.declared.faults.What.TheVariants.{Width, Height}
 use Rattle.wt_line.specs.Limits.{number_from_one}
 use Rattle.wt_text.specs.Words.{number}
 use Rattle.wt_text.specs.Lines.{Line, lines, bytes_of}
 use Rattle.wt_text.specs.Readers.{◌then◌, within, TextFault, part_by, whole_text}
-use Rattle.wt_text.specs.Spellings.{AllFit, number_spelling, line_spelling}
+use Rattle.wt_text.specs.Spellings.{number_spelling, line_spelling}
 use Rattle.wt_text.proofs.Numbers.{number_found, number_again, decimal_clean}
 use Rattle.wt_text.proofs.Formats.{IsFormat, IsLine, bind_some, read_is, within_ok, within_again, behind_format, both_format, whole_line}
 use Rattle.wt_text.proofs.Texts.{IsPart, IsWhole, then_ok, ok_pair, clean_lines, line_part, text_whole}
 use Rattle.wt_text.proofs.Seen.{seen_part}
-use Rattle.wt_pattern.specs.Shape.{IsShape}
-use Rattle.wt_pattern.specs.PatternRows.{rows_grid, pattern_rows, shape_form, only_rows, pattern_part, rows_below, cells_spelling, pattern_lines}
+use Rattle.wt_pattern.specs.PatternRows.{pattern_rows, shape_form, only_rows, pattern_part, rows_below, cells_spelling, pattern_lines}
 use Rattle.std.specs.List.{flat_map}
 use Rattle.wt_pattern.proofs.PatternTexts.{GridFits, grid_law, grid_spelled, grid_read}
 use Rattle.wt_faults.specs.Inputs.{shape_tokens, shaped_lines, HasShapedText}

@@ -1,5 +1,5 @@
 -- What a fault says of a text, over its grammar: no reader is named here.
-use Rattle.std.specs.Prelude.{◌≡◌, ℕ, ◌+◌, List, [], ◌∷◌, ◌++◌, length, Option, None, Some, Result, Ok, Err}
+use Rattle.std.specs.Prelude.{◌≡◌, ℕ, ◌+◌, List, [], ◌∷◌, ◌++◌, length, None, Some, Result, Ok, Err}
 use Rattle.wt_line.specs.declared.faults.What.{What}
 use Rattle.wt_text.specs.Lines.{Line}
 use Rattle.wt_text.specs.Readers.{TextFault, syntax_at, limit_at}

@@ -10,6 +10,7 @@ ghost use Rattle.wt_chain.specs.declared.raw.RawChain.{RawChain};
 ghost use Rattle.wt_cert.specs.Parts.{cert_part};
 ghost use Rattle.wt_faults.specs.Meaning.{HasFaultsOf};
 ghost use Rattle.wt_faults.specs.Rows.{set_grammar, rows_grammar, pattern_grammar};
+ghost use Rattle.wt_faults.specs.Certificates.{certificate_grammar, desub_grammar};
 ghost use Rattle.wt_faults.specs.Inputs.{shaped_lines, HasShapedText, desub_lines, HasDesubText};
 
 /// A text is read as a pattern with its width and height exactly where it is the text of that pattern, and the
@@ -39,4 +40,15 @@ pub fn row_faults()
 pub fn pattern_faults()
     ensures rows { (w h : ℕ) → 1 ≤ w → HasFaultsOf (rows_grammar w h) (whole_text (pattern_rows w h)) }
     ensures shaped { HasFaultsOf pattern_grammar (whole_text pattern_part) }
+{}
+
+/// The fault of a certificate is the first one that its grammar has, and each such fault is told.
+pub fn certificate_faults()
+    ensures { HasFaultsOf certificate_grammar (whole_text cert_part) }
+{}
+
+/// The fault of an input of `desub` is the first one that the grammar of both its texts has, and each such fault is
+/// told.
+pub fn desub_faults()
+    ensures { HasFaultsOf desub_grammar (whole_text (both_parts cert_part pattern_part)) }
 {}

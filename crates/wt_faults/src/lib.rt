@@ -4,4 +4,7 @@
 
 mod laws;
 
-pub use laws::{desub_inputs_are_exact, pattern_faults, pattern_inputs_are_exact, row_faults};
+pub use laws::{
+    certificate_faults, desub_faults, desub_inputs_are_exact, pattern_faults,
+    pattern_inputs_are_exact, row_faults,
+};
