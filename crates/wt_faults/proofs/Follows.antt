@@ -160,7 +160,7 @@ module _ {A S : Type 0} {read : S → ℕ × List Line → Result (A × (ℕ × 
         ∙ sym (then_outcome (λ y k more. first_fault (later y) k more) (read s p) (λ a. many_parts read left (left s a.0) n a.1 then λ as'. Ok (a.0 ∷ as'.0, as'.1)));
   }
 
--- a count, and so many parts that follow their grammar where the count is one that can be read
+-- a count, and n parts that follow their grammar where the count is one that can be read
 pub counted_read : {A S : Type 0} {count : ℕ × List Line → Result (ℕ × (ℕ × List Line)) (TextFault What)} {counts : (ℕ → Grammar) → Grammar} (read : S → ℕ × List Line → Result (A × (ℕ × List Line)) (TextFault What)) (parts : ℕ → (List A → Grammar) → Grammar) (left : S → A → S) (s : S)
     → IsRead count counts → ((p q : ℕ × List Line) (n : ℕ) → count p ≡ Ok (n, q) → IsRead (many_parts read left s n) (parts n)) → IsRead (counted_parts count read left s) (λ next. counts (λ n. parts n next))
 unfolding counted_parts

@@ -55,7 +55,7 @@ word_line w = alone (behind_word w (known tt))
 abbrev pub count_line : List ℕ → ℕ → What → List (List ℕ) → Option (ℕ × List Quantity)
 count_line w most what = alone (behind_word w (a_number most what))
 
--- a word, a count, and so many numbers
+-- a word, a count, and n numbers
 abbrev pub numbers_line : List ℕ → List (List ℕ) → Option (List ℕ × List Quantity)
 numbers_line w = alone (behind_word w (counted_list MAX_TILES Tiles MOST Number))
 
@@ -97,11 +97,11 @@ abbrev pub radius_said : Version → ℕ → List (List ℕ) → Option ((ℕ ×
 radius_said versions.One r = known r
 radius_said versions.Two r = a_radius
 
--- A a b TREE, or in version two A a b R TREE, behind trees of so many nodes
+-- A a b TREE, or in version two A a b R TREE, behind trees of n nodes
 abbrev pub refuted_line : Version → ℕ → ℕ → List (List ℕ) → Option ((Axis × (ℕ × (ℕ × (ℕ × Refutation)))) × List Quantity)
 refuted_line version r nodes = alone (two an_axis (two a_small (two a_small (two (radius_said version r) (a_tree (may_cite version) nodes)))))
 
--- t TREE, behind trees of so many nodes
+-- t TREE, behind trees of n nodes
 abbrev pub lost_line : ℕ → List (List ℕ) → Option ((ℕ × Refutation) × List Quantity)
 lost_line nodes = alone (two a_small (a_tree true nodes))
 

@@ -42,7 +42,7 @@ two fa fb ts = fa ts >>= λ a. fb a.1 >>= λ b. Some (joined a.0 b)
 abbrev pub led : {A : Type 0} → A × List Quantity → (List A × List Quantity) × List (List ℕ) → (List A × List Quantity) × List (List ℕ)
 led a b = ((a.0 ∷ b.0.0, a.1 ++ b.0.1), b.1)
 
--- so many things
+-- n things
 abbrev pub so_many : {A : Type 0} → (List (List ℕ) → Option ((A × List Quantity) × List (List ℕ))) → ℕ → List (List ℕ) → Option ((List A × List Quantity) × List (List ℕ))
 so_many form zero ts = Some (([], []), ts)
 so_many form (suc n) ts = form ts >>= λ a. so_many form n a.1 >>= λ b. Some (led a.0 b)
@@ -88,7 +88,7 @@ abbrev pub numbers : ℕ → What → List (List ℕ) → Option (List ℕ × Li
 numbers most what [] = Some ([], [])
 numbers most what (t ∷ ts) = number t >>= λ n. numbers most what ts >>= λ x. Some (n ∷ x.0, quantity what most n ∷ x.1)
 
--- a count, and so many numbers to the end of the line
+-- a count, and n numbers to the end of the line
 abbrev pub counted_list : ℕ → What → ℕ → What → List (List ℕ) → Option ((List ℕ × List Quantity) × List (List ℕ))
 counted_list many kind most what [] = None
 counted_list many kind most what (t ∷ ts) = number t >>= λ n. if nat_eq (length ts) n then (numbers most what ts >>= λ x. Some ((x.0, quantity kind many n ∷ x.1), [])) else None

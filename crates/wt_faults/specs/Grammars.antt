@@ -59,12 +59,12 @@ going_on next (Some x) = next x.0
 abbrev pub one : {A : Type 0} → (List (List ℕ) → Option (A × List Quantity)) → (A → Grammar) → Grammar
 one form next = line (λ ts. has_form (form ts)) (λ ts. quantities (form ts)) (λ ts. going_on next (form ts))
 
--- so many parts one after the other, and then what goes by them
+-- n parts one after the other, and then what goes by them
 abbrev pub many : {A : Type 0} → ((A → Grammar) → Grammar) → ℕ → (List A → Grammar) → Grammar
 many part zero next = next []
 many part (suc n) next = part (λ x. many part n (λ xs. next (x ∷ xs)))
 
--- so many parts, each of which goes by what those before it have left, and then what goes by them
+-- n parts, each of which goes by what those before it have left, and then what goes by them
 abbrev pub many_in_turn : {A S : Type 0} → (S → (A → Grammar) → Grammar) → (S → A → S) → S → ℕ → (List A → Grammar) → Grammar
 many_in_turn part left s zero next = next []
 many_in_turn part left s (suc n) next = part s (λ x. many_in_turn part left (left s x) n (λ xs. next (x ∷ xs)))

@@ -16,15 +16,15 @@ names_line = alone (two a_name (two a_name (two a_name a_name)))
 abbrev pub names_part : (Edges (List ℕ) → Grammar) → Grammar
 names_part next = one names_line (λ x. next (row_edges x))
 
--- so many such rows
+-- n such rows
 abbrev pub set_grammar : ℕ → Grammar
 set_grammar n = many names_part n (λ rows. ends)
 
--- a row of so many numbers
+-- a row of n numbers
 abbrev pub cells_line : ℕ → List (List ℕ) → Option (List ℕ × List Quantity)
 cells_line width = alone (so_many (a_number MOST Number) width)
 
--- so many rows of so many numbers, and then what goes by them
+-- h rows of w numbers, and then what goes by them
 abbrev pub cells_grammar : ℕ → ℕ → (List (List ℕ) → Grammar) → Grammar
 cells_grammar width height = many (one (cells_line width)) height
 

@@ -13,7 +13,7 @@ use Rattle.wt_faults.specs.Forms.{quantity}
 
 -- ---- the tree that tokens spell: its cell and what stands behind it; for each child its tile and its own tree
 
--- so many branches, and the tokens that are left
+-- n branches, and the tokens that are left
 abbrev pub branches_said : (List (List ℕ) → Option (Refutation × List (List ℕ))) → ℕ → List (List ℕ) → Option (Branches × List (List ℕ))
 branches_said read zero ts = Some (no_more, ts)
 branches_said read (suc n) [] = None
@@ -24,7 +24,7 @@ abbrev pub node_said : (List (List ℕ) → Option (Refutation × List (List ℕ
 node_said read cell (cites axis) ts = Some (cite cell axis, ts)
 node_said read cell (children n) ts = branches_said read n ts >>= λ b. Some (branch cell b.0, b.1)
 
--- a tree of at most so many levels, and the tokens that are left
+-- a tree of at most n levels, and the tokens that are left
 abbrev pub tree_said : Bool → ℕ → List (List ℕ) → Option (Refutation × List (List ℕ))
 tree_said citing zero ts = None
 tree_said citing (suc levels) (cell ∷ count ∷ ts) = number cell >>= λ c. ending citing count >>= λ e. node_said (tree_said citing levels) c e ts
@@ -36,7 +36,7 @@ tree_said citing (suc levels) ts = None
 abbrev pub node_quantities : ℕ → ℕ → ℕ → List Quantity
 node_quantities depth nodes cell = quantity Nodes MAX_NODES (nodes + 1) ∷ quantity Depth 90 depth ∷ quantity Number MOST cell ∷ []
 
--- those of a tree, at this depth and behind so many nodes: a branching node also has the number of its children
+-- those of a tree, at this depth and behind n nodes: a branching node also has the number of its children
 abbrev mutual
   pub tree_quantities : ℕ → ℕ → Refutation → List Quantity
   tree_quantities depth nodes (branch cell branches) =
@@ -53,6 +53,6 @@ abbrev pub whole_tree : ℕ → Refutation → List (List ℕ) → Option ((Refu
 whole_tree nodes tree [] = Some ((tree, tree_quantities 1 nodes tree), [])
 whole_tree nodes tree (t ∷ ts) = None
 
--- a tree to the end of the line, behind trees of so many nodes; it has no more levels than tokens
+-- a tree to the end of the line, behind trees of n nodes; it has no more levels than tokens
 abbrev pub a_tree : Bool → ℕ → List (List ℕ) → Option ((Refutation × List Quantity) × List (List ℕ))
 a_tree citing nodes ts = tree_said citing (length ts) ts >>= λ x. whole_tree nodes x.0 x.1

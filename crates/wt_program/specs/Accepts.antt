@@ -23,6 +23,6 @@ pub record IsCertificateOf (chain : RawChain) (bytes : List ℕ) : Type 0 where
 pub record AcceptsExactly (bytes : List ℕ) (status : ℕ) : Type 0 where
   -- where it says yes, they are the certificate of a chain
   pub certified : status ≡ ANSWERED → (chain : RawChain) × IsCertificateOf chain bytes
-  -- and it says yes to each certificate, save for faults of the devices and want of memory
+  -- and it says yes to each certificate, save for faults of the devices and running out of memory
   pub accepted : (chain : RawChain) → IsCertificateOf chain bytes
       → status ≢ READ_FAULT → status ≢ WRITE_FAULT → status ≢ OUT_OF_MEMORY → status ≡ ANSWERED

@@ -82,7 +82,7 @@ tests_text p = codes "valid\nperiods " ++ (decimal (period_count p) ++ codes " o
 unfoldable pub size_text : Grid → List ℕ
 size_text q = codes "coarse " ++ (decimal q.width ++ (codes " " ++ (decimal q.height ++ codes "\n")))
 
--- the text of a pattern p over so many tiles, with its coarse pattern q
+-- the text of a pattern p over n tiles, with its coarse pattern q
 abbrev pub sample_text : ℕ → End → ℕ → Grid → Grid → List ℕ
 sample_text n end tiles p q = head_text n end ++ (tests_text p ++ (size_text q ++ counts_text (tile_counts tiles p.cells)))
 

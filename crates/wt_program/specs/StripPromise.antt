@@ -27,7 +27,7 @@ IsBarring bytes = (list : TileList) × (l : Layers) × (set_and_layers bytes ≡
 abbrev pub IsFilling : List Tile → ℕ → ℕ → Option (List ℕ) → Option (List ℕ) → Type 0
 IsFilling ts w h old new = (g : Grid) × IsPatternOf ts w h g × Appends old new (filled_text g)
 
--- layers of this width were written, at most so many, and no valid pattern is at least so wide as they are and so high as their number
+-- layers of this width were written, at most n, and no valid pattern is at least so wide as they are and so high as their number
 abbrev pub IsEmptying : List Tile → ℕ → ℕ → Option (List ℕ) → Option (List ℕ) → Type 0
 IsEmptying ts w h old new = (l : Layers) × (l.width ≡ w) × (length l.layers ≤ h) × HasNoPattern ts w (length l.layers) × Appends old new (empty_text l)
 

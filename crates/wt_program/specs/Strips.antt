@@ -30,7 +30,7 @@ filled_text g = codes "filled\n" ++ bytes_of (pattern_lines g)
 abbrev pub many_rows_text : ℕ → List ℕ
 many_rows_text layer = codes "limit rows layer " ++ (decimal layer ++ codes "\n")
 
--- what is replied to the layers, or to the pattern; want of memory has no reply
+-- what is replied to the layers, or to the pattern; running out of memory has no reply
 abbrev pub IsToldStrip : Result Stripped StripEnd → Reply → Type 0
 IsToldStrip (Ok (Empty l)) reply = reply ≡ Answered (empty_text l)
 IsToldStrip (Ok (Filled g)) reply = reply ≡ Answered (filled_text g)
@@ -47,7 +47,7 @@ IsWideAnswer (Err end) = Unit {0}
 abbrev pub IsStripAnswer : List Tile → ℕ → ℕ → Result Stripped StripEnd → Type 0
 IsStripAnswer ts w h answer = MatchResult answer (λ found. IsStripped ts w h found) (λ end. IsStripEnd ts w h end)
 
--- the reply to the tiles of a set: its layers of rows of this width, at most so many
+-- the reply to the tiles of a set: its layers of rows of this width, at most n
 abbrev pub IsLayersReply : ℕ → ℕ → List Tile → Reply → Type 0
 IsLayersReply w h ts reply = (answer : Result Stripped StripEnd) × IsStripAnswer ts w h answer × IsToldStrip answer reply
 
