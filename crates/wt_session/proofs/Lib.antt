@@ -16,6 +16,7 @@ pub mod Behind
 pub mod Counted
 pub mod Lightened
 pub mod Fitting
+pub mod Heavy
 pub mod One
 pub mod Decided
 pub mod Powers

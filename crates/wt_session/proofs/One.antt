@@ -51,6 +51,10 @@ use Rattle.wt_search.specs.declared.end.SearchEnd.{SearchEnd}
 use Rattle.wt_search.specs.declared.end.SearchEnd.TheVariants as ends
 use Rattle.wt_search.specs.Asked.{Asked, asked, at_level}
 use Rattle.wt_search.specs.Found.{Progress, going, over, progress, found, SpentAfter, MayEnd, MayAnswerSearch}
+use Rattle.wt_search.specs.declared.light_end.LightenEnd.{LightenEnd}
+use Rattle.wt_search.specs.declared.light_end.LightenEnd.TheVariants as light_ends
+use Rattle.wt_search.specs.Light.{light}
+use Rattle.wt_search.specs.Lightened.{lightened, MayStop, MayBeSpentFrom, MayAnswerLighten}
 use Rattle.wt_search.specs.Enough.{HasEnough, IsEnough, IsNotSpent}
 use Rattle.wt_search.proofs.Enough.{enough_for}
 use Rattle.wt_search.proofs.Levels.{same_table}
@@ -62,7 +66,7 @@ use Rattle.wt_session.specs.declared.value.Value.TheVariants.{Set, Pattern, Chai
 use Rattle.wt_session.specs.Sheets.{Laid}
 use Rattle.wt_session.specs.Names.{Names, find}
 use Rattle.wt_session.specs.Values.{IsGoodValue, HasGoodValues}
-use Rattle.wt_session.specs.Replies.{Reply, says, chain_in, chain_named, pattern_named, set_named, value_named, open_chain}
+use Rattle.wt_session.specs.Replies.{Reply, says, binds, chain_in, chain_named, pattern_named, set_named, value_named, open_chain}
 use Rattle.wt_session.specs.Tiles.{IsTilesReplyBy}
 use Rattle.wt_session.specs.Desub.{IsTakenReply, IsSetReply, IsStepReply, IsOverReply, IsDesubOf, IsDesubIn, coarse_reply}
 use Rattle.wt_session.specs.Primitive.{IsPowerReply, IsPrimitiveOf, power_text}
@@ -75,8 +79,10 @@ use Rattle.wt_session.specs.Levels.{IsEndReply, level_spent_text}
 use Rattle.wt_session.specs.Search.{IsFoundReply, IsSearchOf}
 use Rattle.wt_session.specs.Derive as derive
 use Rattle.wt_session.specs.Derive.{IsClassReply, SaysStep, IsStepOf, IsBehind, IsBehindAll, IsDeriveOf, no_set, step_reply, wanted}
+use Rattle.wt_session.specs.Lighten.{IsHeavyReply, IsLightReply, IsLightenOf, nodes_text}
 use Rattle.wt_session.specs.Meaning.{IsReply}
-use Rattle.wt_session.specs.Enough.{HasEnoughTrials, HasEnoughAlong, HasEnoughAround, HasEnoughAtEnd, HasEnoughBehind, IsEnoughFor}
+use Rattle.wt_session.specs.Enough.{HasEnoughTrials, HasEnoughAlong, HasEnoughAround, HasEnoughAtEnd, HasEnoughBehind, HasEnoughForSteps, IsEnoughFor}
+use Rattle.wt_session.proofs.Heavy.{none_given_up}
 
 -- ---- tiles
 
@@ -407,6 +413,39 @@ derive_one n f w (Ok (Set set)) x y enough is js = derived_one n set [] w x y en
 derive_one n f w (Ok (Pattern p)) x y enough is js = is ∙ sym js
 derive_one n f w (Ok (Chain c)) x y enough is js = behind_one n c.steps w c.end x y enough is js
 
+-- ---- lighten
+
+heavy_one : (e : LightenEnd) (x y : Reply) → IsHeavyReply e x → IsHeavyReply e y → x ≡ y
+heavy_one (light_ends.Spent step r axis a b) x y is js = is ∙ sym js
+heavy_one (light_ends.TooManyNodes step) x y is js = is ∙ sym js
+heavy_one light_ends.OutOfMemory x y is js = absurd is
+
+-- the reply to a chain that is lightened, or to the end that is met
+abbrev pub IsMetReply : List ℕ → RawChain → Result ℕ LightenEnd → Reply → Type 0
+IsMetReply n c (Ok nodes) reply = reply ≡ binds n (Chain (light c)) (nodes_text (light c))
+IsMetReply n c (Err e) reply = IsHeavyReply e reply
+
+met_one : (n : List ℕ) (c : RawChain) (met : Result ℕ LightenEnd) (x y : Reply) → IsMetReply n c met x → IsMetReply n c met y → x ≡ y
+met_one n c (Ok nodes) x y is js = is ∙ sym js
+met_one n c (Err e) x y is js = heavy_one e x y is js
+
+-- where the budget is enough, the reply is that to what is met
+pub reply_to_met : (n : List ℕ) (c : RawChain) (budget : ℕ) (answer : Result RawChain (RawChain × LightenEnd)) (reply : Reply) → HasEnoughForSteps budget c.steps
+    → MayAnswerLighten c budget answer → IsLightReply n answer reply → IsMetReply n c (lightened c budget) reply
+reply_to_met n c budget (Ok l) reply enough may is =
+    subst (λ (m : Result ℕ LightenEnd). IsMetReply n c m reply) (sym may.1.1) (is ∙ ap (λ (x : RawChain). binds n (Chain x) (nodes_text x)) may.0)
+reply_to_met n c budget (Err e) reply enough may is = by may.1
+  where
+    by : MayStop (MayBeSpentFrom 0 budget c.steps 0 e.1) (lightened c budget) e.1 → IsMetReply n c (lightened c budget) reply
+    by (inl h) = absurd (subst (λ (x : LightenEnd). IsHeavyReply x reply) h is)
+    by (inr (inl h)) = absurd (none_given_up e.1 c budget enough h)
+    by (inr (inr h)) = subst (λ (m : Result ℕ LightenEnd). IsMetReply n c m reply) (sym h) is
+
+lighten_one : (n : List ℕ) (budget : ℕ) (r : Result RawChain Reply) (x y : Reply) → IfOk r (λ c. HasEnoughForSteps budget c.steps) → IsLightenOf n budget r x → IsLightenOf n budget r y → x ≡ y
+lighten_one n budget (Err stopped) x y enough is js = is ∙ sym js
+lighten_one n budget (Ok c) x y enough is js =
+    met_one n c (lightened c budget) x y (reply_to_met n c budget is.0 x enough is.1 is.2) (reply_to_met n c budget js.0 y enough js.1 js.2)
+
 -- ---- any word
 
 pub one : (names : Names) (w : Word) (x y : Reply) → HasGoodValues names → IsEnoughFor names w → IsReply names w x → IsReply names w y → x ≡ y
@@ -417,6 +456,8 @@ one names (word.Period p dx dy) x y good enough is js = is ∙ sym js
 one names (word.Fuse s axis u v) x y good enough is js = is ∙ sym js
 one names (word.Cert c) x y good enough is js = is ∙ sym js
 one names (word.Check n bytes) x y good enough is js = is ∙ sym js
+one names (word.Upgrade n c) x y good enough is js = is ∙ sym js
+one names (word.Lighten n c b) x y good enough is js = lighten_one n b (chain_named names c) x y enough is js
 one names (word.Expand n c w h) x y good enough is js = is ∙ sym js
 one names (word.Image c t) x y good enough is js = is ∙ sym js
 one names (word.Desub n c k p) x y good enough is js = desub_one names n (chain_named names c) k p x y (good_chain names c good) is js

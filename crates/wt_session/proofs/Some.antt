@@ -1,6 +1,6 @@
 -- Every command has a reply.
 use Rattle.std.proofs.Common.{arith, ◌≡◌, ◌⊎◌, ◌<◌, ◌≤◌, ℕ, zero, suc, Bool, true, false, List, [], ◌∷◌, ◌++◌, length, drop, slice_get, Option, None, Some, option_map, if◌then◌else◌, nat_lt, nat_eq, Result, Ok, Err, inl, inr, refl, ap, ◌∙◌}
-use Rattle.std.specs.Prelude.{IfOk}
+use Rattle.std.specs.Prelude.{IfOk, IfErr}
 use Rattle.std.proofs.lemmas.Bool.{cases_lt}
 use Rattle.wt_grid.specs.declared.axis.Axis.{Axis}
 use Rattle.wt_grid.specs.declared.axis.Axis.TheVariants as axes
@@ -46,6 +46,10 @@ use Rattle.wt_search.specs.declared.end.SearchEnd.{SearchEnd}
 use Rattle.wt_search.specs.declared.end.SearchEnd.TheVariants as ends
 use Rattle.wt_search.specs.Asked.{Asked, asked, plan_at, at_level, step_or_end, first_step, step_at, IsSpent, IsAskedFor, EndsAtZero}
 use Rattle.wt_search.specs.Found.{limited, meeting, closed_by, Progress, going, over, after_meeting, with_nodes, with_step, next, progress, outcome, found, MayAnswerSearch}
+use Rattle.wt_search.specs.declared.light_end.LightenEnd.{LightenEnd}
+use Rattle.wt_search.specs.declared.light_end.LightenEnd.TheVariants as light_ends
+use Rattle.wt_search.specs.Light.{light}
+use Rattle.wt_search.specs.Lightened.{lightened}
 use Rattle.wt_script.specs.declared.word.Word.{Word}
 use Rattle.wt_script.specs.declared.word.Word.TheVariants as word
 use Rattle.wt_script.specs.Fits.{Fits}
@@ -55,7 +59,7 @@ use Rattle.wt_session.specs.declared.value.Value.TheVariants.{Set, Pattern, Chai
 use Rattle.wt_session.specs.Sheets.{Laid, AreTiles}
 use Rattle.wt_session.specs.Names.{Names, find}
 use Rattle.wt_session.specs.Values.{IsGoodValue, HasGoodValues}
-use Rattle.wt_session.specs.Replies.{Reply, spent, pattern_in, set_in, value_in, chain_named, pattern_named, set_named, value_named}
+use Rattle.wt_session.specs.Replies.{Reply, binds, limit, spent, pattern_in, set_in, value_in, chain_named, pattern_named, set_named, value_named}
 use Rattle.wt_session.specs.Tiles.{IsTilesReplyBy}
 use Rattle.wt_session.specs.Desub.{IsTakenReply, IsSetReply, IsStepReply, IsOverReply, IsDesubOf, IsDesubIn, coarse_reply}
 use Rattle.wt_session.specs.Tables.{spent_text}
@@ -66,8 +70,10 @@ use Rattle.wt_session.specs.Levels.{IsEndReply, level_spent_text}
 use Rattle.wt_session.specs.Search.{IsFoundReply, IsSearchOf}
 use Rattle.wt_session.specs.Derive as derive
 use Rattle.wt_session.specs.Derive.{IsClassReply, SaysStep, IsStepOf, IsBehind, IsBehindAll, IsDeriveOf, no_set, step_reply, wanted}
+use Rattle.wt_session.specs.Lighten.{IsLightenOf, nodes_text, radius_spent_text, step_nodes_text}
 use Rattle.wt_session.specs.Meaning.{IsReply}
 use Rattle.wt_session.proofs.Desub.{same_tiles}
+use Rattle.wt_session.proofs.Heavy.{NeedsNone, lightened_needs_none}
 use Rattle.wt_session.proofs.One.{good_chain, good_link, margin, taken_apart}
 use Rattle.wt_session.proofs.Powers.{primitive_some, census_reply}
 use Rattle.wt_session.proofs.Tabled.{first_match, spent_first, asked_some, asked_both, window_some}
@@ -370,6 +376,20 @@ search_some : (n : List ℕ) (s : Asked) (levels : ℕ) (r : Result TileList Rep
 search_some n s levels (Err stopped) lt = some _
 search_some n s levels (Ok set) lt = let told = searched s set n levels lt in (told.0, (told.1, told.2, told.3))
 
+-- ---- lighten
+
+-- what is met may be answered
+met_some : (n : List ℕ) (c : RawChain) (budget : ℕ) (met : Result ℕ LightenEnd) → lightened c budget ≡ met → IfErr met NeedsNone → (reply : Reply) × IsLightenOf n budget (Ok c) reply
+met_some n c budget (Ok nodes) e h = (binds n (Chain (light c)) (nodes_text (light c)), (Ok (light c), (refl, (nodes, e)), refl))
+met_some n c budget (Err (light_ends.Spent step r axis a b)) e h =
+    (spent (radius_spent_text step r axis a b), (Err (c, light_ends.Spent step r axis a b), (refl, inr (inr e)), refl))
+met_some n c budget (Err (light_ends.TooManyNodes step)) e h = (limit (step_nodes_text step), (Err (c, light_ends.TooManyNodes step), (refl, inr (inr e)), refl))
+met_some n c budget (Err light_ends.OutOfMemory) e h = absurd (h refl)
+
+lighten_some : (n : List ℕ) (budget : ℕ) (r : Result RawChain Reply) → (reply : Reply) × IsLightenOf n budget r reply
+lighten_some n budget (Err stopped) = some _
+lighten_some n budget (Ok c) = met_some n c budget (lightened c budget) refl (lightened_needs_none c budget)
+
 -- ---- any word
 
 pub replied : (names : Names) (w : Word) → HasGoodValues names → Fits w → (reply : Reply) × IsReply names w reply
@@ -380,6 +400,8 @@ replied names (word.Period p dx dy) good fits = some _
 replied names (word.Fuse s axis u v) good fits = some _
 replied names (word.Cert c) good fits = some _
 replied names (word.Check n bytes) good fits = some _
+replied names (word.Upgrade n c) good fits = some _
+replied names (word.Lighten n c b) good fits = lighten_some n b (chain_named names c)
 replied names (word.Expand n c w h) good fits = some _
 replied names (word.Image c t) good fits = some _
 replied names (word.Desub n c k p) good fits = desub_some names n (chain_named names c) k p good (good_chain names c good)

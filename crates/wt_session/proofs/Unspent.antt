@@ -57,6 +57,9 @@ use Rattle.wt_search.specs.Found.{found}
 use Rattle.wt_search.specs.Enough.{HasEnough, IsEnough, IsNotSpent}
 use Rattle.wt_search.proofs.Enough.{enough_for}
 use Rattle.wt_search.proofs.Levels.{surroundable_tells}
+use Rattle.wt_search.specs.declared.light_end.LightenEnd.{LightenEnd}
+use Rattle.wt_search.specs.declared.light_end.LightenEnd.TheVariants as light_ends
+use Rattle.wt_search.specs.Lightened.{lightened}
 use Rattle.wt_script.specs.declared.word.Word.{Word}
 use Rattle.wt_script.specs.declared.word.Word.TheVariants as word
 use Rattle.wt_session.specs.declared.limits.TheConstants.{MAX_INPUT}
@@ -90,9 +93,12 @@ use Rattle.wt_session.specs.Surround.{IsWindowOf, IsSurroundOf, first_no_tile}
 use Rattle.wt_session.specs.Levels.{IsEndReply, level_text, level_spent_text, sets_text}
 use Rattle.wt_session.specs.Search.{IsFoundReply, IsSearchOf}
 use Rattle.wt_session.specs.Derive.{IsClassReply, SaysStep, IsStepOf, IsBehind, IsBehindAll, IsDeriveOf, no_set, step_reply, longer_reply, opened, images_text, wanted}
+use Rattle.wt_session.specs.Upgrade.{upgrade_of}
+use Rattle.wt_session.specs.Lighten.{IsLightenOf}
 use Rattle.wt_session.specs.Meaning.{IsReply}
-use Rattle.wt_session.specs.Enough.{HasEnoughTrials, HasEnoughAlong, HasEnoughAround, HasEnoughAtEnd, HasEnoughBehind, IsEnoughFor, IsUnspent}
-use Rattle.wt_session.proofs.One.{asked_table, asked_tables, around, window_found, window_reply, reply_to_found, IsPlannedReply, reply_to_plan}
+use Rattle.wt_session.specs.Enough.{HasEnoughTrials, HasEnoughAlong, HasEnoughAround, HasEnoughAtEnd, HasEnoughBehind, HasEnoughForSteps, IsEnoughFor, IsUnspent}
+use Rattle.wt_session.proofs.One.{asked_table, asked_tables, around, window_found, window_reply, reply_to_found, IsPlannedReply, reply_to_plan, IsMetReply, reply_to_met}
+use Rattle.wt_session.proofs.Heavy.{IsOther, lightened_other}
 
 -- the status of a refusal, and 0 of an answer
 abbrev status : Reply → ℕ
@@ -476,6 +482,22 @@ derive_low n f w (Ok (Set set)) x low enough e = derived_low n set [] w x enough
 derive_low n f w (Ok (Pattern p)) x low enough e = told x _ e one_low
 derive_low n f w (Ok (Chain c)) x low enough e = behind_low n c.steps w c.end x enough e
 
+-- ---- upgrade and lighten
+
+upgrade_low : (n : List ℕ) (r : Result RawChain Reply) → LowErr r → Low (upgrade_of n r)
+upgrade_low n (Err stopped) low = low
+upgrade_low n (Ok c) low = zero_low
+
+met_low : (n : List ℕ) (c : RawChain) (met : Result ℕ LightenEnd) (x : Reply) → IfErr met IsOther → IsMetReply n c met x → Low x
+met_low n c (Ok nodes) x other e = told x _ e zero_low
+met_low n c (Err (light_ends.Spent step r axis a b)) x other e = absurd (other step r axis a b refl)
+met_low n c (Err (light_ends.TooManyNodes step)) x other e = told x _ e five_low
+met_low n c (Err light_ends.OutOfMemory) x other e = absurd e
+
+lighten_low : (n : List ℕ) (budget : ℕ) (r : Result RawChain Reply) (x : Reply) → LowErr r → IfOk r (λ c. HasEnoughForSteps budget c.steps) → IsLightenOf n budget r x → Low x
+lighten_low n budget (Err stopped) x low enough e = told x stopped e low
+lighten_low n budget (Ok c) x low enough e = met_low n c (lightened c budget) x (lightened_other c budget enough) (reply_to_met n c budget e.0 x enough e.1 e.2)
+
 -- ---- any word
 
 low : (names : Names) (w : Word) (x : Reply) → IsEnoughFor names w → IsReply names w x → Low x
@@ -486,6 +508,8 @@ low names (word.Period p dx dy) x enough e = told x _ e (period_low dx dy (patte
 low names (word.Fuse s axis u v) x enough e = told x _ e (fuse_low axis u v (set_named names s) (set_low names s))
 low names (word.Cert c) x enough e = told x _ e (cert_low (chain_named names c) (chain_low names c))
 low names (word.Check n bytes) x enough e = told x _ e (check_low n bytes)
+low names (word.Upgrade n c) x enough e = told x _ e (upgrade_low n (chain_named names c) (chain_low names c))
+low names (word.Lighten n c b) x enough e = lighten_low n b (chain_named names c) x (chain_low names c) enough e
 low names (word.Expand n c w h) x enough e = told x _ e (expand_low n w h (chain_named names c) (chain_low names c))
 low names (word.Image c t) x enough e = told x _ e (image_low t (chain_named names c) (chain_low names c))
 low names (word.Desub n c k p) x enough e = desub_low names n (chain_named names c) k p x (chain_low names c) e
