@@ -23,7 +23,10 @@ fn makes_lowest_terms(rt: HostRuntime) -> Result<(), Fail> {
         ([1, 1, 0], (0, 0, 0)),
     ];
     for (numbers, want) in rows {
-        assert_eq!(rt; parts(Golden::new(numbers[0], numbers[1], numbers[2])), want);
+        assert_eq!(rt;
+            parts(Golden::new(numbers[0], numbers[1], numbers[2])),
+            want
+        );
     }
     assert!(rt; matches!(Golden::new(1, 1, 0), Err(GoldenFault::ZeroDivisor)));
     assert!(rt; matches!(Golden::new(1_073_741_824, 0, 1), Err(GoldenFault::TooLarge)));

@@ -82,10 +82,17 @@ fn induces_four_quarters(rt: HostRuntime) -> Result<(), Fail> {
     let alloc = rt.alloc();
     let p = quarters(alloc, [2, -1, 1])?.expect(&rt, "a partition");
     let (induced, morphism) = induce(alloc, &p, Axis::One).expect(&rt, "an induced partition");
-    let images = [Image::One(0), Image::One(2), Image::Two(0, 1), Image::Two(2, 3)];
+    let images = [
+        Image::One(0),
+        Image::One(2),
+        Image::Two(0, 1),
+        Image::Two(2, 3),
+    ];
     assert_eq!(rt; morphism.table.as_slice(), images.as_slice());
     let z = point([1, 0, 10], [1, 0, 10]).expect(&rt, "a point");
-    let row = code(alloc, &induced, &z, 6, 1).expect(&rt, "a code").into_cells();
+    let row = code(alloc, &induced, &z, 6, 1)
+        .expect(&rt, "a code")
+        .into_cells();
     assert_eq!(rt; row.as_slice(), [0, 2, 2, 0, 2, 0].as_slice());
     Ok(())
 }
