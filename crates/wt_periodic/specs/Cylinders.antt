@@ -1,5 +1,5 @@
 -- Scaffolding: lines of tiles that close, stacked: what each wrapping rectangle gives, repeated across its lines.
-use Rattle.std.specs.Prelude.{◌≡◌, ℕ, ◌+◌, ◌-◌, ◌%◌, ◌<◌, ◌≤◌, ◌&&◌, Bool, true, false, nat_lt, Option, None, Some, List, length, slice_index, slice_index_or}
+use Rattle.std.specs.Prelude.{◌≡◌, ℕ, ◌+◌, ◌-◌, ◌%◌, ◌<◌, ◌≤◌, ◌&&◌, Bool, true, false, nat_lt, Option, None, Some, List, length, take, slice_index, slice_index_or}
 use Rattle.wt_grid.specs.Axes.{other}
 use Rattle.wt_grid.specs.declared.axis.Axis.TheVariants.{One, Two}
 use Rattle.wt_grid.specs.declared.axis.Axis.{Axis}
@@ -50,6 +50,11 @@ pub record IsCylinder (ts : List Tile) (axis : Axis) (w n : ℕ) (g : List ℕ) 
   pub close : (k : ℕ) → k < n → k % w + 1 ≡ w → IsPair ts axis (slice_index g k) (slice_index g (k + 1 - w))
   pub across : (k : ℕ) → k < n → w ≤ k → IsPair ts (other axis) (slice_index g (k - w)) (slice_index g k)
   pub low : (k : ℕ) → k < n → slice_index g 0 ≤ slice_index g k
+
+-- The mask has the next tile of each cylinder along this axis that begins with as many of these cells, where the other axis is the one across.
+abbrev pub KeepsCylinders : List Tile → Axis → Axis → ℕ → List ℕ → ℕ → List ℕ → Type 0
+KeepsCylinders ts across axis w filled at mask =
+    (g : List ℕ) → across ≡ other axis → IsCylinder ts axis w (length filled) g → take at g ≡ take at filled → mask_bit mask (slice_index g at) ≡ 1
 
 -- no rectangle of this length along an axis wraps round, whatever its other side
 abbrev pub IsDead : List Tile → Axis → ℕ → Type 0

@@ -1,11 +1,13 @@
 -- The least wrapping rectangle of the sizes up to a limit.
-use Rattle.std.specs.Prelude.{◌≡◌, ◌⊎◌, ℕ, ◌*◌, ◌<◌, ◌≤◌, List, Option, Result, MatchOption, MatchResult}
+use Rattle.std.specs.Prelude.{◌≡◌, ◌⊎◌, ℕ, ◌*◌, ◌<◌, ◌≤◌, List, take, Option, Result, MatchOption, MatchResult}
 use Rattle.wt_tile.specs.declared.tile.Tile.{Tile}
 use Rattle.wt_grid.specs.Grid.{Grid}
 use Rattle.wt_grid.specs.Order.{IsBefore}
 use Rattle.wt_periodic.specs.Wraps.{IsWrapOf}
 use Rattle.wt_periodic.specs.Wraps.{HasNoWrapOf}
 use Rattle.wt_periodic.specs.Fillings.{wrap_trials}
+use Rattle.wt_periodic.specs.declared.least.TheConstants.{MAX_CELLS}
+use Rattle.wt_periodic.specs.declared.search.Size.{Size}
 use Rattle.wt_periodic.specs.declared.least.WrapEnd.{WrapEnd}
 use Rattle.wt_periodic.specs.declared.least.WrapEnd.TheVariants.{Spent, OutOfMemory}
 
@@ -38,6 +40,14 @@ pub record IsLeastWrap (ts : List Tile) (limit : ℕ) (g : Grid) : Type 0 where
   pub size : IsSize limit g.width g.height
   pub first : HasNoEarlier ts limit g.width g.height
   pub least : IsLeastOf ts g.width g.height g
+
+-- the rectangle of this size whose cells are the first of these, count in number
+abbrev pub front_of : Size → ℕ → List ℕ → Grid
+front_of size count cells = record { width = size.width; height = size.height; cells = take count cells }
+
+-- the first of these cells are the wrapping rectangle that is least in reading order, at the first size that has one, which is this size
+abbrev pub IsLeastFront : List Tile → ℕ → Size → List ℕ → Type 0
+IsLeastFront ts limit size cells = (size.width * size.height ≤ MAX_CELLS) × IsLeastWrap ts limit (front_of size (size.width * size.height) cells)
 
 -- the budget may be spent at w by h: the size has more trials, and no earlier size has a wrapping rectangle; at budget 0 it is 1 by 1
 pub record IsSpentAt (ts : List Tile) (limit budget w h : ℕ) : Type 0 where

@@ -12,10 +12,11 @@ use Rattle.wt_pattern.specs.declared.fault.Fault.{Fault}
 abbrev pub following : ℕ → ℕ → ℕ
 following n x = if nat_lt (x + 1) n then x + 1 else 0
 
--- the cell to the right of cell (x, y), and the cell above it, in a rectangle that wraps round
+-- the cell to the right of cell (x, y), in a rectangle that wraps round
 abbrev pub cell_right : Grid → ℕ → ℕ → ℕ
 cell_right g x y = cell g (following g.width x) y
 
+-- the cell above it
 abbrev pub cell_above : Grid → ℕ → ℕ → ℕ
 cell_above g x y = cell g x (following g.height y)
 
@@ -43,6 +44,7 @@ wrap_fault_at ts g y x =
     else if not (matches ts Two (cell g x y) (cell_above g x y)) then Some (record { axis = Two; x = x; y = y })
     else None
 
+-- the first fault of row y
 abbrev pub wrap_fault_in : List Tile → Grid → ℕ → Option Fault
 wrap_fault_in ts g y = first_from (wrap_fault_at ts g y) 0 g.width
 

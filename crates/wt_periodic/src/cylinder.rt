@@ -40,7 +40,7 @@ fn goes_on(along: &Pairs<'_>, width: usize, filled: &[u16], at: usize) -> [u64; 
 fn stacks(across: &Pairs<'_>, width: usize, filled: &[u16], at: usize) -> [u64; 4]
     requires wide { 1 ≤ width }
     requires within { at < length filled.now }
-    ensures { (axis : Axis) (g : List ℕ) → across.now.axis ≡ other axis → spec.IsCylinder across.now.tiles.now axis width (length filled.now) g → take at g ≡ take at filled.now → mask_bit result (slice_index g at) ≡ 1 }
+    ensures { (axis : Axis) → spec.KeepsCylinders across.now.tiles.now across.now.axis axis width filled.now at result }
 {
     if width <= at {
         mask_of(&across.ahead, filled[at - width])

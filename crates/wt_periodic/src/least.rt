@@ -113,7 +113,7 @@ fn first_size(
     requires second_tiles { two.now.tiles.now ≡ rounds.now.tables.tiles.now }
     requires high { limit ≤ MAX_LIMIT }
     requires some { 0 < budget }
-    ensures wrap { (size : Size) → result ≡ Reached.Wrap size → (size.width * size.height ≤ MAX_CELLS) × spec.IsLeastWrap rounds.now.tables.tiles.now limit (record { width = size.width; height = size.height; cells = take (size.width * size.height) cells.new }) }
+    ensures wrap { (size : Size) → result ≡ Reached.Wrap size → spec.IsLeastFront rounds.now.tables.tiles.now limit size cells.new }
     ensures nothing { result ≡ Reached.Nothing → spec.HasNone rounds.now.tables.tiles.now limit }
     ensures spent { (size : Size) → result ≡ Reached.Spent size → spec.IsSpentAt rounds.now.tables.tiles.now limit budget size.width size.height }
 {
@@ -218,7 +218,8 @@ fn of_area(
     requires limit { limit ≤ MAX_LIMIT }
     requires some { 0 < budget }
     requires none { (m n : ℕ) → spec.IsSize limit m n → m * n < area → HasNoWrapOf rounds.now.tables.tiles.now m n }
-    ensures wrap { (size : Size) → result ≡ Reached.Wrap size → spec.IsLeastWrap rounds.now.tables.tiles.now limit (record { width = size.width; height = size.height; cells = take area cells.new }) × (size.width * size.height ≡ area) }
+    ensures wrap { (size : Size) → result ≡ Reached.Wrap size →
+        spec.IsLeastWrap rounds.now.tables.tiles.now limit (spec.front_of size area cells.new) × (size.width * size.height ≡ area) }
     ensures nothing { result ≡ Reached.Nothing → (m n : ℕ) → spec.IsSize limit m n → m * n ≡ area → HasNoWrapOf rounds.now.tables.tiles.now m n }
     ensures spent { (size : Size) → result ≡ Reached.Spent size → spec.IsSpentAt rounds.now.tables.tiles.now limit budget size.width size.height }
 {
