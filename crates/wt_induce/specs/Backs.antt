@@ -30,6 +30,7 @@ abbrev pub paired_fault : List Half → ℕ → ℕ → Option (List Half) → O
 paired_fault front a b None = Some TooLarge
 paired_fault front a b (Some hs) = planes_fault (paired front a b hs)
 
+-- the fault of a region moved back, behind those in front
 abbrev pub back_fault : List Half → ℕ → Back → Option InduceFault
 back_fault front a q = paired_fault front a q.label q.planes
 
@@ -38,12 +39,14 @@ abbrev pub paired_drafts : List Half → ℕ → ℕ → Option (List Half) → 
 paired_drafts front a b None = []
 paired_drafts front a b (Some hs) = paired front a b hs ∷ []
 
+-- the draft of a region moved back, behind those in front
 abbrev pub back_drafts : List Half → ℕ → Back → List Draft
 back_drafts front a q = paired_drafts front a q.label q.planes
 
--- the drafts of one region with all regions moved back, and the first fault of them
+-- the drafts of one region with all regions moved back
 abbrev pub region_drafts : List Half → List Back → Labelled → List Draft
 region_drafts zs qs p = flat_map (back_drafts (p.region.planes ++ zs) p.label) qs
 
+-- the first fault of these drafts
 abbrev pub region_pairs_fault : List Half → List Back → Labelled → Option InduceFault
 region_pairs_fault zs qs p = first_in (back_fault (p.region.planes ++ zs) p.label) qs

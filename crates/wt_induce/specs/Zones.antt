@@ -56,11 +56,12 @@ abbrev pub moved_along : Axis → Fraction → Half → Half
 moved_along One f h = moved_half h f zero_fraction
 moved_along Two f h = moved_half h zero_fraction f
 
--- the ends of the zone below the bound, and of the zone above it
+-- where the zone below the bound begins, or the one above it
 abbrev pub zone_low : Frame → Bool → Fraction
 zone_low w true = zero_fraction
 zone_low w false = w.bound
 
+-- where it ends
 abbrev pub zone_high : Frame → Bool → Fraction
 zone_high w true = w.bound
 zone_high w false = w.size

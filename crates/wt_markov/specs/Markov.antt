@@ -11,6 +11,7 @@ use Rattle.wt_markov.specs.Follow.{can_follow}
 abbrev pub IsRegion : Partition → ℕ → Labelled → Type 0
 IsRegion p i r = slice_get p.regions i ≡ Some r
 
+-- The labels of a partition are tiles of a set, and match wherever a turn can lead from one region into another.
 pub record Markov (ts : List Tile) (p : Partition) : Type 0 where
   -- every label is a tile
   pub tiles : (i : ℕ) (r : Labelled) → IsRegion p i r → r.label < length ts

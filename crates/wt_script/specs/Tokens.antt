@@ -12,12 +12,15 @@ use Rattle.wt_text.specs.Readers.{◌>>=◌, number_to, either_word}
 
 -- ---- names
 
+-- a small letter, by its byte
 abbrev pub is_letter : ℕ → Bool
 is_letter b = nat_le 97 b && nat_le b 122
 
+-- a small letter, a digit or `_`
 abbrev pub is_name_byte : ℕ → Bool
 is_name_byte b = is_letter b || (nat_le 48 b && nat_le b 57) || nat_eq b 95
 
+-- each byte is one of these
 abbrev pub all_name_bytes : List ℕ → Bool
 all_name_bytes [] = true
 all_name_bytes (b ∷ bs) = is_name_byte b && all_name_bytes bs
@@ -45,6 +48,7 @@ component (t ∷ ts) = if is_signed t then Some (if nat_lt (unsigned_abs (signed
 
 -- ---- words
 
+-- `numbers` or `boxes`
 abbrev pub style : List (List ℕ) → Option (Result Style What × List (List ℕ))
 style = either_word (codes "numbers") Numbers (codes "boxes") Boxes
 
