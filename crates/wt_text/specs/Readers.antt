@@ -5,14 +5,14 @@ use Rattle.std.specs.Fmt.{decimal}
 use Rattle.wt_text.specs.Words.{tokens, number}
 use Rattle.wt_text.specs.Lines.{Line}
 
--- what is read next, where something was read
 infixl 10 ◌>>=◌
+-- What is read next, where something was read.
 abbrev pub ◌>>=◌ : {A B : Type 0} → Option A → (A → Option B) → Option B
 (Some x) >>= f = f x
 None >>= f = None
 
--- what is read next, where nothing was wrong
 infixl 10 ◌then◌
+-- What is read next, where nothing was wrong.
 abbrev pub ◌then◌ : {A B E : Type 0} → Result A E → (A → Result B E) → Result B E
 (Ok x) then f = f x
 (Err e) then f = Err e

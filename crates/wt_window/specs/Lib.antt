@@ -1,4 +1,8 @@
+-- Searches of windows in reading order, and how many trials they take.
 pub mod Trials
+-- Scaffolding: windows as a search of them holds them: a mask of tiles for each cell.
 pub mod Frames
+-- Which pairs of tiles have a window, and the least window in reading order.
 pub mod Surrounded
+-- What searches of windows may answer.
 pub mod Outcomes

@@ -1,1 +1,2 @@
+-- Tokens that stand behind others in a line.
 pub mod Behind
