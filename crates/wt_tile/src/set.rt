@@ -51,7 +51,7 @@ pub fn set_fault(list: &TileList) -> Option<SetFault>
         return Some(SetFault::TooMany);
     }
     if let Some(tile) = colour_fault(tiles, names1.len(), names2.len()) {
-        return Some(SetFault::NoColour { tile });
+        return Some(SetFault::NoColour { tile: tile as u16 });
     }
     if !are_apart(names1) || count_colours1(tiles) < names1.len() {
         return Some(SetFault::Names { axis: Axis::One });

@@ -58,7 +58,7 @@ pub enum SetFault {
     /// The first tile with a colour that isn't numbered by first coming, or has no name.
     NoColour {
         /// The number of this tile.
-        tile: usize,
+        tile: u16,
     },
     /// Two names of this axis are equal, or there are more of them than colours.
     Names {
