@@ -3,10 +3,12 @@ pub mod Towers
 pub mod Faults
 pub mod Skips
 pub mod Walked
+pub mod Bears
 pub mod Uponed
 pub mod Gathers
 pub mod Merges
 pub mod Nexts
+pub mod Led
 pub mod Rises
 pub mod Strips
 pub mod Leasts

@@ -1,5 +1,5 @@
 -- The rows of the next layer, upon some rows of the layer below.
-use Rattle.std.proofs.Common.{true, arith, ◌≡◌, ◌⊎◌, ℕ, ◌+◌, ◌<◌, ◌≤◌, List, length, Bool, refl, subst, inl, inr}
+use Rattle.std.proofs.Common.{true, arith, ◌≡◌, ◌⊎◌, ℕ, ◌+◌, ◌<◌, ◌≤◌, List, length, refl, subst, inl, inr}
 use Rattle.std.proofs.lemmas.Bool.{cases_lt}
 use Rattle.wt_tile.specs.declared.tile.Tile.{Tile}
 use Rattle.wt_strip.specs.Layers.{IsRow, IsUnder}

@@ -1,5 +1,5 @@
 -- Layers as text, both ways.
-use Rattle.std.proofs.Common.{rules, arith, ◌≡◌, ℕ, zero, suc, ◌+◌, ◌-◌, ◌*◌, ◌/◌, ◌≤◌, ◌<◌, ◌^◌, Bool, true, false, cond, nat_eq, List, [], ◌∷◌, ◌++◌, length, length-append, take, drop, Option, Some, None, Result, Ok, Err, refl, sym, ap, ◌∙◌, append_assoc, subst, codes}
+use Rattle.std.proofs.Common.{rules, arith, ◌≡◌, ℕ, zero, suc, ◌+◌, ◌-◌, ◌*◌, ◌/◌, ◌≤◌, ◌<◌, ◌^◌, Bool, true, false, cond, nat_eq, List, [], ◌∷◌, ◌++◌, length, length-append, take, drop, Option, Some, None, Result, Ok, refl, sym, ap, ◌∙◌, append_assoc, subst, codes}
 use Rattle.std.specs.List.{concat, flat_map}
 use Rattle.std.specs.Fmt.{decimal}
 use Rattle.std.proofs.lemmas.Bool.{eqb-false}
@@ -9,8 +9,8 @@ use Rattle.std.proofs.lemmas.List.{drop-drop, take_at, drop_at, take_all}
 use Rattle.std.proofs.Math.Seq.{take-add}
 use Rattle.wt_text.specs.Words.{number}
 use Rattle.wt_text.specs.Lines.{Line, lines, bytes_of}
-use Rattle.wt_text.specs.Readers.{LineFault, TextFault, given, within, part_by, whole_text, one_line}
-use Rattle.wt_text.specs.Spellings.{AllFit, number_spelling, both_spelling, line_spelling, FitInTurn}
+use Rattle.wt_text.specs.Readers.{TextFault, given, within, part_by, whole_text}
+use Rattle.wt_text.specs.Spellings.{AllFit, number_spelling, FitInTurn}
 use Rattle.wt_text.proofs.Numbers.{number_found, number_again, decimal_clean}
 use Rattle.wt_text.proofs.Formats.{IsFormat, IsLine, bind_some, read_is, within_ok, within_again, number_format, behind_format, both_format, whole_line}
 use Rattle.wt_text.proofs.Texts.{IsPart, IsWhole, then_ok, ok_pair, clean_lines, line_part, both_part, many_part, counted_part, text_whole}
@@ -21,7 +21,7 @@ use Rattle.wt_line.specs.Limits.{number_from_one}
 use Rattle.wt_line.specs.declared.faults.What.{What}
 use Rattle.wt_line.specs.declared.faults.What.TheVariants.{Width, Height, Rows}
 use Rattle.wt_pattern.specs.TileRows.{no_state}
-use Rattle.wt_pattern.specs.PatternRows.{cells_form, cells_rows, cells_spelling}
+use Rattle.wt_pattern.specs.PatternRows.{cells_rows}
 use Rattle.wt_pattern.proofs.CellForms.{CellsFit, cells_line, rows_law}
 use Rattle.wt_grid.proofs.Bridge.{length-listed}
 use Rattle.wt_grid.proofs.Grids.{listed_same}

@@ -1,5 +1,5 @@
 -- Missing rows upon listed rows.
-use Rattle.std.proofs.Common.{arith, ◌≡◌, ℕ, zero, suc, ◌<◌, List, length, slice_index, Bool, refl, ap, ◌∙◌}
+use Rattle.std.proofs.Common.{arith, ◌≡◌, ℕ, zero, suc, ◌<◌, List, length, slice_index, refl, ap, ◌∙◌}
 use Rattle.wt_tile.specs.declared.tile.Tile.{Tile}
 use Rattle.wt_grid.specs.declared.axis.Axis.TheVariants.{Two}
 use Rattle.wt_tile.specs.Matching.{matches}

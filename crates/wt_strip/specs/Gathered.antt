@@ -1,5 +1,5 @@
 -- Scaffolding: rows that are appended in ascending order.
-use Rattle.std.specs.Prelude.{◌≡◌, ℕ, suc, ◌*◌, ◌<◌, ◌≤◌, List, length, slice_index, Bool, true}
+use Rattle.std.specs.Prelude.{◌≡◌, ℕ, suc, ◌*◌, ◌<◌, ◌≤◌, List, length, slice_index, true}
 use Rattle.wt_tile.specs.declared.tile.Tile.{Tile}
 use Rattle.wt_strip.specs.Listed.{rows_in, row_at, is_before}
 use Rattle.wt_strip.specs.Walks.{IsWay, AreAlike}

@@ -5,6 +5,7 @@ use Rattle.wt_grid.specs.declared.axis.Axis.TheVariants.{One}
 use Rattle.wt_tile.specs.Matching.{matches}
 use Rattle.wt_lane.specs.Masks.{mask_bit}
 use Rattle.wt_mask.specs.Masks.{mask_at}
+use Rattle.wt_strip.specs.Layers.{IsRow, IsUnder}
 
 -- the mask of a column allows tile t
 abbrev pub column_allows : List ℕ → ℕ → Bool
@@ -33,3 +34,7 @@ AreAlike n p q = (x : ℕ) → x < n → slice_index p x ≡ slice_index q x
 -- p comes at latest with q: they agree in w columns, or p has the lower tile where they first differ
 abbrev pub IsNotBehind : ℕ → List ℕ → List ℕ → Type 0
 IsNotBehind w p q = AreAlike w p q ⊎ ((x : ℕ) × (x < w) × AreAlike x p q × (slice_index p x < slice_index q x))
+
+-- upon the first n tiles of row p a valid row of n tiles can be laid
+abbrev pub CanBear : List Tile → ℕ → List ℕ → Type 0
+CanBear ts n p = (q : List ℕ) × IsRow ts n q × IsUnder ts n p q

@@ -12,7 +12,7 @@ ghost use Rattle.wt_strip.specs.Exact.{IsStranger, HasMissing, IsLayerFault, IsE
 use crate::limits::{MAX_COLUMNS, MAX_LAYERS};
 use crate::rows::{drop_in, past_alike, row};
 use crate::shape::is_shaped;
-use crate::walk::{all_allowed, allowed_upon, misses};
+use crate::walk::{all_allowed, allowed_upon, bearing_from, misses};
 use crate::{Layers, StripFault};
 use wt_mask::Sides;
 use wt_tile::{Axis, SetRef, Tile, is_match};
@@ -101,6 +101,7 @@ fn stranger_in(tiles: &[Tile], w: usize, n: usize, below: &[u16], cells: &[u16])
 fn has_missing(sides: &Sides<'_>, w: usize, n: usize, below: &[u16], cells: &[u16]) -> bool
     requires wide { 1 ≤ w }
     requires narrow { w ≤ MAX_COLUMNS }
+    requires below { IsAscending w below.now (rows_in w below.now) }
     requires ascending { IsAscending w cells.now (rows_in w cells.now) }
     ensures missing { result ≡ true → HasMissing (IsUpon sides.now.tiles.now w n below.now) w cells.now }
     ensures whole { result ≡ false → (q : List ℕ) → IsUpon sides.now.tiles.now w n below.now q → IsListed w cells.now q }
@@ -108,10 +109,12 @@ fn has_missing(sides: &Sides<'_>, w: usize, n: usize, below: &[u16], cells: &[u1
     if n == 0 {
         return misses(sides, w, &all_allowed(sides), cells);
     }
-    for r in 0..below.len() / w {
+    let mut r = bearing_from(sides, w, below, 0);
+    'rows: while r < below.len() / w {
         if misses(sides, w, &allowed_upon(sides, row(w, below, r)), cells) {
             return true;
         }
+        r = bearing_from(sides, w, below, r + 1);
     }
     false
 }

@@ -5,6 +5,7 @@ mod check;
 mod gather;
 mod laws;
 mod layers;
+mod leads;
 mod least;
 mod limits;
 mod making;

@@ -1,12 +1,13 @@
 //! The next layer: the valid rows upon listed rows.
 ghost use Rattle.std.specs.Prelude.{◌≡◌, ◌<◌, ◌≤◌, ◌+◌, length, IfOk, MatchOption};
 ghost use Rattle.wt_strip.specs.Layers.{IsRow};
-ghost use Rattle.wt_strip.specs.Listed.{rows_in, IsUpon, IsLayer, HasMore};
+ghost use Rattle.wt_strip.specs.Listed.{rows_in, IsAscending, IsUpon, IsLayer, HasMore};
 ghost use Rattle.wt_strip.specs.Merged.{IsUponSome};
 
 use crate::gather::gathered;
+use crate::leads::lead_rows;
 use crate::limits::MAX_COLUMNS;
-use crate::merge::merged;
+use crate::merge::{in_order, merged};
 use crate::rows::row;
 use crate::walk::{all_allowed, allowed_upon};
 use std::alloc::{AllocError, Global};
@@ -96,10 +97,16 @@ pub fn next_layer(
 ) -> Result<Option<Vec<u16>>, AllocError>
     requires wide { 1 ≤ w }
     requires narrow { w ≤ MAX_COLUMNS }
-    requires some { 0 < rows_in w below.now }
+    requires ascending { IsAscending w below.now (rows_in w below.now) }
     ensures { IfOk result (λ found. MatchOption found (HasMore (IsUpon sides.now.tiles.now w 1 below.now) w room) (λ cells. IsLayer (IsUpon sides.now.tiles.now w 1 below.now) w cells.items)) }
 {
-    let Some(cells) = rows_upon(alloc, sides, w, below, 0, below.len() / w, room)? else {
+    let leads = lead_rows(alloc, sides, w, below)?;
+    let count = leads.len() / w;
+    if count == 0 {
+        return Ok(Some(Vec::new(alloc)));
+    }
+    let leads = in_order(alloc, w, &leads, 0, count)?;
+    let Some(cells) = rows_upon(alloc, sides, w, &leads, 0, leads.len() / w, room)? else {
         return Ok(None);
     };
     Ok(Some(cells))

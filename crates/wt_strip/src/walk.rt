@@ -1,12 +1,13 @@
 //! Walks of rows in ascending order, column by column, and the search for one that isn't listed.
-ghost use Rattle.std.specs.Prelude.{◌≡◌, ◌<◌, ◌≤◌, ◌-◌, ℕ, suc, List, true, false, length, take, slice_index, MatchOption};
+ghost use Rattle.std.specs.Prelude.{◌≡◌, ◌<◌, ◌≤◌, ◌+◌, ◌-◌, ℕ, suc, List, true, false, length, take, slice_index, MatchOption};
 ghost use Rattle.wt_tile.specs.Matching.{matches};
+ghost use Rattle.wt_lane.specs.Masks.{mask_bit};
 ghost use Rattle.wt_strip.specs.Layers.{IsRow, IsUnder};
-ghost use Rattle.wt_strip.specs.Listed.{rows_in, IsAscending, IsListed};
-ghost use Rattle.wt_strip.specs.Walks.{column_allows, is_allowed, IsWay, IsPruned, AreAlike, IsNotBehind};
+ghost use Rattle.wt_strip.specs.Listed.{rows_in, row_at, IsAscending, IsListed};
+ghost use Rattle.wt_strip.specs.Walks.{column_allows, is_allowed, IsWay, IsPruned, CanBear, AreAlike, IsNotBehind};
 
 use crate::limits::MAX_COLUMNS;
-use crate::rows::is_listed;
+use crate::rows::{is_listed, past_alike, row};
 use wt_grid::MAX_TILES;
 use wt_lane::{and_into, any};
 use wt_mask::{Sides, Way, has_bit, join_into, next_bit};
@@ -121,6 +122,58 @@ fn before(sides: &Sides<'_>, next: &[u64; 4]) -> [u64; 4]
         from = u + 1;
     }
     mask
+}
+
+/// The tiles that may stand behind a tile of a column.
+fn behind(sides: &Sides<'_>, column: &[u64; 4]) -> [u64; 4]
+    ensures stands { (u : ℕ) → mask_bit result u ≡ 1 → (t : ℕ) × (mask_bit column.now t ≡ 1) × (u < length sides.now.tiles.now) × (matches sides.now.tiles.now Axis.One t u ≡ true) }
+    ensures all { (t u : ℕ) → u < length sides.now.tiles.now → mask_bit column.now t ≡ 1 → matches sides.now.tiles.now Axis.One t u ≡ true → mask_bit result u ≡ 1 }
+{
+    let mut mask = [0u64; 4];
+    let mut from = 0usize;
+    'tiles: while let Some(t) = next_bit(column, from) {
+        join_into(&mut mask, &sides.beside(Way::Right, t as u16));
+        from = t + 1;
+    }
+    mask
+}
+
+/// The first column up to which no valid row can be laid upon a row, or None where one can be laid upon all of it.
+fn blocked_at(sides: &Sides<'_>, p: &[u16]) -> Option<usize>
+    ensures { MatchOption result (CanBear sides.now.tiles.now (length p.now) p.now)
+        (λ x. (x < length p.now) × (CanBear sides.now.tiles.now (x + 1) p.now → ⊥)) }
+{
+    let mut next = sides.all();
+    for x in 0..p.len() {
+        let mut ends = sides.beside(Way::Up, p[x]);
+        and_into(&mut ends, &next);
+        if !any(&ends) {
+            return Some(x);
+        }
+        next = behind(sides, &ends);
+    }
+    None
+}
+
+/// The first of ascending rows from row r on upon which a valid row can be laid, or their end. Where none can be laid upon
+/// a row, all that begin alike are passed over.
+pub fn bearing_from(sides: &Sides<'_>, w: usize, below: &[u16], r: usize) -> usize
+    requires wide { 1 ≤ w }
+    requires inside { r ≤ rows_in w below.now }
+    requires ascending { IsAscending w below.now (rows_in w below.now) }
+    ensures from { r ≤ result }
+    ensures within { result ≤ rows_in w below.now }
+    ensures bears { result < rows_in w below.now → CanBear sides.now.tiles.now w (row_at w below.now result) }
+    ensures passed { (s : ℕ) → r ≤ s → s < result → CanBear sides.now.tiles.now w (row_at w below.now s) → ⊥ }
+{
+    let mut at = r;
+    'rows: while at < below.len() / w {
+        match blocked_at(sides, row(w, below, at)) {
+            Some(x) => at = past_alike(w, below, at, x + 1),
+            None => return at,
+        }
+    }
+    at
 }
 
 /// Of the tiles of a column those that a tile of the next column matches.

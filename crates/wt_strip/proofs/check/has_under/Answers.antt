@@ -1,4 +1,4 @@
-use Rattle.std.proofs.Common.{arith, ◌≡◌, ◌<◌, ℕ, subst, inl, inr}
+use Rattle.std.proofs.Common.{◌<◌, ℕ, subst, inl, inr}
 use Rattle.std.proofs.lemmas.Bool.{cases_lt}
 use Rattle.wt_strip.proofs.Skips.{not_under}
 use Rattle.wt_strip.proofs.check.has_under.Goals as goal

@@ -1,4 +1,4 @@
-use Rattle.std.proofs.Common.{arith, ◌≡◌, ◌+◌, ◌-◌, ◌/◌, ◌<◌, List, ℕ, subst}
+use Rattle.std.proofs.Common.{arith, ◌+◌, ◌-◌, ◌/◌, List, ℕ, subst}
 use Rattle.wt_strip.specs.Listed.{row_at}
 use Rattle.wt_strip.specs.Walks.{AreAlike}
 use Rattle.wt_strip.proofs.Cells.{middle}

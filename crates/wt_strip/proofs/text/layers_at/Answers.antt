@@ -1,4 +1,4 @@
-use Rattle.std.proofs.Common.{arith, ◌≡◌, ◌++◌, ◌∷◌, [], ◌/◌, List, ℕ, length, ap}
+use Rattle.std.proofs.Common.{arith, ◌≡◌, ◌/◌, List, ℕ, length, ap}
 use Rattle.std.proofs.lemmas.Result.{err_from_is_err_and}
 use Rattle.wt_text.specs.Lines.{lines}
 use Rattle.wt_line.proofs.Turns.{goes_on, ends}

@@ -1,4 +1,4 @@
-use Rattle.std.proofs.Common.{arith, ◌≡◌, ◌-◌, ◌<◌, ◌≤◌, ℕ, suc, length, slice_index, true, false, Bool, sym, subst, ◌∙◌}
+use Rattle.std.proofs.Common.{arith, ◌≡◌, ◌-◌, ℕ, suc, slice_index, true, false, Bool, sym, subst, ◌∙◌}
 use Rattle.std.proofs.lemmas.List.{length-set}
 use Rattle.wt_strip.specs.Walks.{is_allowed}
 use Rattle.wt_strip.proofs.Walked.{narrowed_way, narrowed_fewer, bit_of}
