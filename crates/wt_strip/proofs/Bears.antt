@@ -1,5 +1,5 @@
 -- Valid rows upon the first tiles of a row, column by column.
-use Rattle.std.proofs.Common.{arith, ◌≡◌, ◌⊎◌, ℕ, suc, ◌+◌, ◌/◌, ◌%◌, ◌<◌, ◌≤◌, List, [], ◌∷◌, ◌++◌, length, length-append, take, slice_index, get_or, Bool, true, false, ◌&&◌, nat_lt, max, min, refl, sym, ap, ◌∙◌, subst, inl, inr}
+use Rattle.std.proofs.Common.{arith, ◌≡◌, ◌⊎◌, ℕ, suc, ◌+◌, ◌/◌, ◌%◌, ◌<◌, ◌≤◌, List, [], ◌∷◌, ◌++◌, length, length-append, take, slice_index, get_or, Bool, true, false, ◌&&◌, nat_eq, nat_lt, max, min, refl, sym, ap, ◌∙◌, subst, inl, inr}
 use Rattle.std.proofs.lemmas.Bool.{cases_lt, lt-ltb, ltb-true}
 use Rattle.std.proofs.lemmas.Nat.Bits.{bit_at-lt}
 use Rattle.wt_lane.specs.Masks.{mask_bit}
@@ -10,7 +10,8 @@ use Rattle.wt_grid.specs.declared.axis.Axis.TheVariants.{One, Two}
 use Rattle.wt_tile.specs.Matching.{matches}
 use Rattle.wt_mask.specs.Masks.{bit}
 use Rattle.wt_strip.specs.Layers.{IsRow, IsUnder}
-use Rattle.wt_strip.specs.Walks.{CanBear, AreAlike}
+use Rattle.wt_strip.specs.Walks.{column_allows, CanBear, AreAlike}
+use Rattle.wt_strip.proofs.Walked.{bit_of}
 
 -- ---- bits
 
@@ -40,6 +41,20 @@ below_two mask t = let b = bit_at-lt (get_or mask (t / 64) 0) (t % 64) in omega 
 
 pub ones_of : (a b : ℕ) → a ≤ 1 → b ≤ 1 → min a b ≡ 1 → (a ≡ 1) × (b ≡ 1)
 ones_of a b la lb e = (omega (arith, e, la, lb), omega (arith, e, la, lb))
+
+-- a bit that two masks have: a tile that a column allows, and of which something holds
+pub come_of : (t n : ℕ) (b : Bool) (column other both : List ℕ) → mask_bit other t ≡ bit (nat_lt t n && b) → mask_bit both t ≡ min (mask_bit column t) (mask_bit other t) → mask_bit both t ≡ 1
+    → (t < n) × (column_allows column t ≡ true) × (b ≡ true)
+come_of t n b column other both told joined e =
+    let o = ones_of (mask_bit column t) (mask_bit other t) (below_two column t) (below_two other t) (sym joined ∙ e) in
+    let s = shown t n b (sym told ∙ o.1) in
+    (s.0, ap (λ (k : ℕ). nat_eq k 1) o.0, s.1)
+
+pub bar_of : (t n : ℕ) (b : Bool) (column other both : List ℕ) → mask_bit other t ≡ bit (nat_lt t n && b) → mask_bit both t ≡ min (mask_bit column t) (mask_bit other t) → mask_bit both t ≡ 0
+    → t < n → column_allows column t ≡ true → b ≡ true → ⊥
+bar_of t n b column other both told joined none lt allows holds =
+    let e = joined ∙ both_ones (bit_of column t allows) (told ∙ raised t n b lt holds) in
+    absurd (omega (arith, e, none))
 
 -- ---- rows that are made longer
 

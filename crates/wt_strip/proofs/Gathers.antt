@@ -1,5 +1,5 @@
 -- Rows that are appended in ascending order.
-use Rattle.std.proofs.Common.{arith, ◌≡◌, ℕ, zero, suc, ◌+◌, ◌-◌, ◌*◌, ◌/◌, ◌<◌, ◌≤◌, List, [], ◌∷◌, ◌++◌, length, length-append, take, drop, set, slice_index, true, refl, sym, ap, ◌∙◌, subst, inl, inr}
+use Rattle.std.proofs.Common.{arith, ◌≡◌, ℕ, zero, suc, ◌+◌, ◌-◌, ◌*◌, ◌/◌, ◌<◌, ◌≤◌, List, [], ◌∷◌, ◌++◌, length, length-append, take, drop, set, slice_index, refl, sym, ap, ◌∙◌, subst, inl, inr}
 use Rattle.std.proofs.Common.{Ordering, Less, Equal, nat_cmp, is_lt}
 use Rattle.std.specs.Cmp.{nat_cmp_is}
 use Rattle.std.specs.Ordering.{ordering_then}
@@ -10,13 +10,11 @@ use Rattle.std.proofs.Math.Seq.{drop-append_seam}
 use Rattle.std.proofs.lemmas.Nat.{div-mul-add}
 use Rattle.std.proofs.Math.Nat.{div-mul-le_self, le-mul_of_pos_right}
 use Rattle.wt_tile.specs.declared.tile.Tile.{Tile}
-use Rattle.wt_grid.specs.declared.axis.Axis.TheVariants.{One}
-use Rattle.wt_tile.specs.Matching.{matches}
 use Rattle.wt_strip.specs.Listed.{rows_in, row_at, is_before, IsListOf, IsSorted}
-use Rattle.wt_strip.specs.Walks.{is_allowed, IsWay, AreAlike}
+use Rattle.wt_strip.specs.Walks.{IsWay, MayCome, AreAlike}
 use Rattle.wt_strip.specs.Gathered.{AreGathered, HasAllGathered}
 use Rattle.wt_strip.proofs.Cells.{row_end, row_long}
-use Rattle.wt_strip.proofs.Walked.{kept, agree_on, barred, whole_row, way_cut}
+use Rattle.wt_strip.proofs.Walked.{kept, agree_on, comes, whole_row, way_cut}
 
 -- ---- one row more
 
@@ -147,24 +145,12 @@ module _ (ts : List Tile) (allowed : List (List ℕ)) (w : ℕ) (wide : 1 ≤ w)
         (f.0, omega (arith, v, longer), f.2, f.3)
   ]
 
-  pub all_pass : (x t : ℕ) (start row old mid : List ℕ) → x < w → AreAlike x row start
-      → (is_allowed allowed x t ≡ true → ((k : ℕ) → x ≡ suc k → matches ts One (slice_index row k) t ≡ true) → ⊥)
-      → HasAllGathered ts allowed w x t start old mid → HasAllGathered ts allowed w x (t + 1) start old mid
-  all_pass x t start row old mid lx same bar all = λ q long way agree lt. elim (cases_lt (slice_index q x) t) [
+  pub all_to : (x from t : ℕ) (start old mid : List ℕ) → x < w → ((u : ℕ) → from ≤ u → u < t → MayCome ts allowed start x u → ⊥)
+      → HasAllGathered ts allowed w x from start old mid → HasAllGathered ts allowed w x t start old mid
+  all_to x from t start old mid lx bar all = λ q long way agree lt. elim (cases_lt (slice_index q x) from) [
     | inl l ↦ all q long way agree l
-    | inr ge ↦ absurd (barred ts allowed w x t q row start lx same agree way (omega arith) bar)
+    | inr ge ↦ absurd (bar (slice_index q x) ge lt (comes ts allowed w x q start lx agree way))
   ]
-
-  pub pass : (x t : ℕ) (start old mid : List ℕ) → AreGathered ts allowed w x t start old mid → AreGathered ts allowed w x (t + 1) start old mid
-  pass x t start old mid g = record {
-    whole = g.whole;
-    longer = g.longer;
-    kept = g.kept;
-    ways = g.ways;
-    agree = g.agree;
-    below = λ r le lt. let b = g.below r le lt in omega (arith, b);
-    ascending = g.ascending;
-  }
 
   pub lift : (x t n : ℕ) (start old mid : List ℕ) → t ≤ n → AreGathered ts allowed w x t start old mid → AreGathered ts allowed w x n start old mid
   lift x t n start old mid le g = record {

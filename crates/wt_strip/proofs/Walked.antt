@@ -12,7 +12,7 @@ use Rattle.std.proofs.lemmas.Bool.{lt-ltb}
 use Rattle.std.proofs.lemmas.Bool.Decides.{nat_tests}
 use Rattle.wt_lane.specs.Masks.{mask_bit}
 use Rattle.wt_mask.specs.Masks.{bit}
-use Rattle.wt_strip.specs.Walks.{column_allows, is_allowed, IsWay, AreAlike, IsNotBehind}
+use Rattle.wt_strip.specs.Walks.{column_allows, is_allowed, IsWay, MayCome, AreAlike, IsNotBehind}
 
 pub was_true : (b : Bool) → not b ≡ false → b ≡ true
 was_true true e = refl
@@ -71,15 +71,21 @@ ahead w x t new row start q lw lx after same agree lt =
     let here : slice_index new x ≡ t = after x (omega arith) ∙ get_or-set_same row x t 0 lx in
     inr (x, lw, (λ k lk. kept x t new row start after same k lk ∙ sym (agree k lk)), omega (arith, here, lt))
 
--- a tile that may not come isn't that of a row that goes on
-pub barred : (ts : List Tile) (allowed : List (List ℕ)) (w x t : ℕ) (q row start : List ℕ) → x < w → AreAlike x row start → AreAlike x q start → IsWay ts allowed w q → slice_index q x ≡ t
-    → (is_allowed allowed x t ≡ true → ((k : ℕ) → x ≡ suc k → matches ts One (slice_index row k) t ≡ true) → ⊥) → ⊥
-barred ts allowed w x t q row start lt same agree way here bar =
-    bar (subst (λ (a : ℕ). is_allowed allowed x a ≡ true) here (way.stands x lt))
-    (λ k e.
-    let last : slice_index q (suc k) ≡ t = ap (slice_index q) (sym e) ∙ here in
-    let before : slice_index q k ≡ slice_index row k = agree k (omega (arith, e)) ∙ sym (same k (omega (arith, e))) in
-    ap (λ (a : ℕ). matches ts One a t) (sym before) ∙ ap (λ (b : ℕ). matches ts One (slice_index q k) b) (sym last) ∙ way.across k (omega (arith, e)))
+-- the tile of a row that goes on may come
+pub comes : (ts : List Tile) (allowed : List (List ℕ)) (w x : ℕ) (q start : List ℕ) → x < w → AreAlike x q start → IsWay ts allowed w q → MayCome ts allowed start x (slice_index q x)
+comes ts allowed w x q start lt agree way = (
+  way.tiles x lt,
+  way.stands x lt,
+  λ k e. ap (λ (a : ℕ). matches ts One a (slice_index q x)) (sym (agree k (omega (arith, e))))
+      ∙ (ap (λ (b : ℕ). matches ts One (slice_index q k) (slice_index q b)) e ∙ way.across k (omega (arith, e))),
+)
+
+-- a tile that may come makes a row that begins alike go on
+pub goes_on : (ts : List Tile) (allowed : List (List ℕ)) (x t : ℕ) (start row : List ℕ) → x < length row → AreAlike x row start → IsWay ts allowed x start → MayCome ts allowed start x t
+    → IsWay ts allowed (x + 1) (set row x t)
+goes_on ts allowed x t start row lt same way come =
+    one_column ts allowed x t row lt (way_same ts allowed x start row (omega (arith, lt)) same way) come.0 come.1
+    (λ k e. ap (λ (a : ℕ). matches ts One a t) (same k (omega (arith, e))) ∙ come.2 k e)
 
 -- a row that its columns allow, cut to its width
 pub way_cut : (ts : List Tile) (allowed : List (List ℕ)) (w : ℕ) (row : List ℕ) → IsWay ts allowed w row → IsWay ts allowed w (take w row)

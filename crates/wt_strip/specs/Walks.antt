@@ -22,6 +22,10 @@ pub record IsWay (ts : List Tile) (allowed : List (List ℕ)) (n : ℕ) (q : Lis
   pub across : (x : ℕ) → suc x < n → matches ts One (slice_index q x) (slice_index q (suc x)) ≡ true
   pub stands : (x : ℕ) → x < n → is_allowed allowed x (slice_index q x) ≡ true
 
+-- tile t may come behind the first x cells of a row: a tile that its column allows and the one before matches
+abbrev pub MayCome : List Tile → List (List ℕ) → List ℕ → ℕ → ℕ → Type 0
+MayCome ts allowed row x t = (t < length ts) × (is_allowed allowed x t ≡ true) × ((k : ℕ) → x ≡ suc k → matches ts One (slice_index row k) t ≡ true)
+
 -- columns that allow fewer tiles, and yet each way
 pub record IsPruned (ts : List Tile) (allowed : List (List ℕ)) (w : ℕ) (left : List (List ℕ)) : Type 0 where
   pub fewer : (x t : ℕ) → is_allowed left x t ≡ true → is_allowed allowed x t ≡ true

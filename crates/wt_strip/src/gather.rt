@@ -5,11 +5,9 @@ ghost use Rattle.wt_strip.specs.Walks.{IsWay, AreAlike};
 ghost use Rattle.wt_strip.specs.Gathered.{AreGathered, HasAllGathered};
 
 use crate::limits::MAX_COLUMNS;
-use crate::walk::{Columns, may_come, pruned};
+use crate::walk::{Columns, coming, pruned};
 use std::alloc::{AllocError, Global};
-use wt_grid::MAX_TILES;
-use wt_mask::Sides;
-use wt_tile::Tile;
+use wt_mask::{Sides, next_bit};
 
 /// Appends a row.
 pub fn push_row(w: usize, cells: &mut Vec<u16>, row: &[u16]) -> Result<(), AllocError>
@@ -24,7 +22,7 @@ pub fn push_row(w: usize, cells: &mut Vec<u16>, row: &[u16]) -> Result<(), Alloc
 
 /// Appends the rows that begin with the first x cells, in ascending order; false once there are more than `room` rows.
 fn gather_from(
-    tiles: &[Tile],
+    sides: &Sides<'_>,
     w: usize,
     allowed: &Columns,
     room: usize,
@@ -32,29 +30,29 @@ fn gather_from(
     row: &mut [u16; MAX_COLUMNS],
     x: usize,
 ) -> Result<bool, AllocError>
-    requires few { length tiles.now ≤ MAX_TILES }
     requires wide { 1 ≤ w }
     requires narrow { w ≤ MAX_COLUMNS }
     requires inside { x ≤ w }
     requires whole { length cells.old.items ≡ rows_in w cells.old.items * w }
-    requires begun { IsWay tiles.now allowed.now x row.old }
+    requires begun { IsWay sides.now.tiles.now allowed.now x row.old }
     ensures long { length row.new ≡ MAX_COLUMNS }
     ensures same { OnOk result (AreAlike x row.new row.old) }
-    ensures gathered { OnOk result (AreGathered tiles.now allowed.now w x (length tiles.now) row.old cells.old.items cells.new.items) }
-    ensures all { IfOk result (λ done. done ≡ true → HasAllGathered tiles.now allowed.now w x (length tiles.now) row.old cells.old.items cells.new.items) }
+    ensures gathered { OnOk result (AreGathered sides.now.tiles.now allowed.now w x (length sides.now.tiles.now) row.old cells.old.items cells.new.items) }
+    ensures all { IfOk result (λ done. done ≡ true → HasAllGathered sides.now.tiles.now allowed.now w x (length sides.now.tiles.now) row.old cells.old.items cells.new.items) }
     ensures more { IfOk result (λ done. done ≡ false → room < rows_in w cells.new.items) }
 {
     if x == w {
         push_row(w, cells, &row[..w])?;
         return Ok(cells.len() / w <= room);
     }
-    for t in 0..tiles.len() {
-        if may_come(tiles, allowed, row, x, t) {
-            row[x] = t as u16;
-            if !gather_from(tiles, w, allowed, room, cells, row, x + 1)? {
-                return Ok(false);
-            }
+    let mask = coming(sides, allowed, row, x);
+    let mut from = 0usize;
+    'tiles: while let Some(t) = next_bit(&mask, from) {
+        row[x] = t as u16;
+        if !gather_from(sides, w, allowed, room, cells, row, x + 1)? {
+            return Ok(false);
         }
+        from = t + 1;
     }
     Ok(true)
 }
@@ -80,6 +78,6 @@ pub fn gathered(
         return Ok((cells, true));
     };
     let mut row = [0u16; MAX_COLUMNS];
-    let done = gather_from(sides.tiles, w, &left, room, &mut cells, &mut row, 0)?;
+    let done = gather_from(sides, w, &left, room, &mut cells, &mut row, 0)?;
     Ok((cells, done))
 }

@@ -42,13 +42,15 @@ pub fn drop_in(w: usize, cells: &[u16]) -> Option<usize>
     None
 }
 
-/// Whether a row is one of ascending rows.
-pub fn is_listed(w: usize, cells: &[u16], q: &[u16]) -> bool
+/// Where a row stands among ascending rows, if it does. Row `guess` is tried first.
+pub fn place_of(w: usize, cells: &[u16], q: &[u16], guess: usize) -> Option<usize>
     requires wide { 1 ≤ w }
     requires ascending { IsAscending w cells.now (rows_in w cells.now) }
-    ensures listed { result ≡ true → IsListed w cells.now q.now }
-    ensures missing { result ≡ false → IsListed w cells.now q.now → ⊥ }
+    ensures { MatchOption result (IsListed w cells.now q.now → ⊥) (λ r. (r < rows_in w cells.now) × (row_at w cells.now r ≡ q.now)) }
 {
+    if guess < cells.len() / w && row(w, cells, guess) == q {
+        return Some(guess);
+    }
     let mut low = 0usize;
     let mut high = cells.len() / w;
     while low < high {
@@ -56,10 +58,10 @@ pub fn is_listed(w: usize, cells: &[u16], q: &[u16]) -> bool
         match compared(w, cells, middle, q) {
             Ordering::Less => low = middle + 1,
             Ordering::Greater => high = middle,
-            Ordering::Equal => return true,
+            Ordering::Equal => return Some(middle),
         }
     }
-    false
+    None
 }
 
 /// Whether the first n tiles of two rows are the same.

@@ -1,17 +1,16 @@
 //! Walks of rows in ascending order, column by column, and the search for one that isn't listed.
-ghost use Rattle.std.specs.Prelude.{◌≡◌, ◌<◌, ◌≤◌, ◌+◌, ◌-◌, ℕ, suc, List, true, false, length, take, slice_index, MatchOption};
+ghost use Rattle.std.specs.Prelude.{◌≡◌, ◌<◌, ◌≤◌, ◌+◌, ◌-◌, ℕ, List, true, false, length, take, slice_index, MatchOption};
 ghost use Rattle.wt_tile.specs.Matching.{matches};
 ghost use Rattle.wt_lane.specs.Masks.{mask_bit};
 ghost use Rattle.wt_strip.specs.Layers.{IsRow, IsUnder};
 ghost use Rattle.wt_strip.specs.Listed.{rows_in, row_at, IsAscending, IsListed};
-ghost use Rattle.wt_strip.specs.Walks.{column_allows, is_allowed, IsWay, IsPruned, CanBear, AreAlike, IsNotBehind};
+ghost use Rattle.wt_strip.specs.Walks.{column_allows, is_allowed, IsWay, MayCome, IsPruned, CanBear, AreAlike, IsNotBehind};
 
 use crate::limits::MAX_COLUMNS;
-use crate::rows::{is_listed, past_alike, row};
-use wt_grid::MAX_TILES;
+use crate::rows::{past_alike, place_of, row};
 use wt_lane::{and_into, any};
-use wt_mask::{Sides, Way, has_bit, join_into, next_bit};
-use wt_tile::{Axis, Tile, is_match};
+use wt_mask::{Sides, Way, join_into, next_bit};
+use wt_tile::Axis;
 
 /// For each column of a row, the mask of the tiles that it allows.
 pub type Columns = [[u64; 4]; MAX_COLUMNS];
@@ -49,63 +48,59 @@ pub fn all_allowed(sides: &Sides<'_>) -> Columns
     [sides.all(); MAX_COLUMNS]
 }
 
-/// Whether a tile may come behind the first x cells of a row.
-pub fn may_come(
-    tiles: &[Tile],
-    allowed: &Columns,
-    row: &[u16; MAX_COLUMNS],
-    x: usize,
-    t: usize,
-) -> bool
-    requires few { length tiles.now ≤ MAX_TILES }
+/// The tiles that may come behind the first x cells of a row.
+pub fn coming(sides: &Sides<'_>, allowed: &Columns, row: &[u16; MAX_COLUMNS], x: usize) -> [u64; 4]
     requires inside { x < MAX_COLUMNS }
-    requires tile { t < length tiles.now }
-    ensures stands { result ≡ true → is_allowed allowed.now x t ≡ true }
-    ensures across { result ≡ true → (k : ℕ) → x ≡ suc k → matches tiles.now Axis.One (slice_index row.now k) t ≡ true }
-    ensures barred { result ≡ false → is_allowed allowed.now x t ≡ true
-        → ((k : ℕ) → x ≡ suc k → matches tiles.now Axis.One (slice_index row.now k) t ≡ true) → ⊥ }
+    ensures come { (t : ℕ) → mask_bit result t ≡ 1 → MayCome sides.now.tiles.now allowed.now row.now x t }
+    ensures barred { (t : ℕ) → mask_bit result t ≡ 0 → MayCome sides.now.tiles.now allowed.now row.now x t → ⊥ }
 {
-    if !has_bit(&allowed[x], t) {
-        return false;
-    }
+    let mut mask = allowed[x];
     if x == 0 {
-        return true;
+        and_into(&mut mask, &sides.all());
+        return mask;
     }
-    is_match(tiles, Axis::One, row[x - 1], t as u16)
+    and_into(&mut mask, &sides.beside(Way::Right, row[x - 1]));
+    mask
 }
 
-/// Whether a row that begins with the first x cells isn't listed: the rows are walked in ascending order up to the first such row.
+/// Whether a row that begins with the first x cells isn't listed: the rows are walked in ascending order up to the first
+/// such row. `next` is the row behind the one that was found last, where the next is looked for first.
 fn misses_from(
-    tiles: &[Tile],
+    sides: &Sides<'_>,
     w: usize,
     allowed: &Columns,
     cells: &[u16],
+    next: &mut usize,
     row: &mut [u16; MAX_COLUMNS],
     x: usize,
 ) -> bool
-    requires few { length tiles.now ≤ MAX_TILES }
     requires wide { 1 ≤ w }
     requires narrow { w ≤ MAX_COLUMNS }
     requires inside { x ≤ w }
     requires ascending { IsAscending w cells.now (rows_in w cells.now) }
-    requires begun { IsWay tiles.now allowed.now x row.old }
+    requires begun { IsWay sides.now.tiles.now allowed.now x row.old }
     ensures long { length row.new ≡ MAX_COLUMNS }
     ensures same { AreAlike x row.new row.old }
-    ensures missed { result ≡ true → IsWay tiles.now allowed.now w row.new × (IsListed w cells.now (take w row.new) → ⊥) }
-    ensures first { result ≡ true → (q : List ℕ) → length q ≡ w → IsWay tiles.now allowed.now w q → AreAlike x q row.old → (IsListed w cells.now q → ⊥)
+    ensures missed { result ≡ true → IsWay sides.now.tiles.now allowed.now w row.new × (IsListed w cells.now (take w row.new) → ⊥) }
+    ensures first { result ≡ true → (q : List ℕ) → length q ≡ w → IsWay sides.now.tiles.now allowed.now w q → AreAlike x q row.old → (IsListed w cells.now q → ⊥)
         → IsNotBehind w row.new q }
-    ensures none { result ≡ false → (q : List ℕ) → length q ≡ w → IsWay tiles.now allowed.now w q → AreAlike x q row.old → IsListed w cells.now q }
+    ensures none { result ≡ false → (q : List ℕ) → length q ≡ w → IsWay sides.now.tiles.now allowed.now w q → AreAlike x q row.old → IsListed w cells.now q }
 {
     if x == w {
-        return !is_listed(w, cells, &row[..w]);
+        let Some(r) = place_of(w, cells, &row[..w], *next) else {
+            return true;
+        };
+        *next = r + 1;
+        return false;
     }
-    for t in 0..tiles.len() {
-        if may_come(tiles, allowed, row, x, t) {
-            row[x] = t as u16;
-            if misses_from(tiles, w, allowed, cells, row, x + 1) {
-                return true;
-            }
+    let mask = coming(sides, allowed, row, x);
+    let mut from = 0usize;
+    'tiles: while let Some(t) = next_bit(&mask, from) {
+        row[x] = t as u16;
+        if misses_from(sides, w, allowed, cells, next, row, x + 1) {
+            return true;
         }
+        from = t + 1;
     }
     false
 }
@@ -226,7 +221,7 @@ pub fn first_missing(
     let Some(left) = pruned(sides, w, allowed) else {
         return false;
     };
-    misses_from(sides.tiles, w, &left, cells, row, 0)
+    misses_from(sides, w, &left, cells, &mut 0, row, 0)
 }
 
 /// Whether a row that the columns allow isn't listed.
