@@ -80,6 +80,7 @@ fn begins_alike(p: &[u16], q: &[u16], n: usize) -> bool
 }
 
 /// A row behind row r of ascending rows, or their end, so that all before it from r on begin with the same n tiles.
+/// The rows behind row r are looked at at distances that double, and then by halves.
 pub fn past_alike(w: usize, cells: &[u16], r: usize, n: usize) -> usize
     requires wide { 1 ≤ w }
     requires inside { r < rows_in w cells.now }
@@ -92,7 +93,8 @@ pub fn past_alike(w: usize, cells: &[u16], r: usize, n: usize) -> usize
     let mut low = r + 1;
     let mut high = cells.len() / w;
     'halves: while low < high {
-        let middle = low + (high - low) / 2;
+        let ahead = ((high - low) / 2).min(low - r - 1);
+        let middle = low + ahead;
         let here = row(w, cells, middle);
         let first = row(w, cells, r);
         if begins_alike(here, first, n) {
