@@ -1,11 +1,12 @@
 -- Scaffolding: rows that are filled column by column, with the tiles that each column allows.
 use Rattle.std.specs.Prelude.{◌≡◌, ◌⊎◌, ℕ, suc, ◌<◌, ◌≤◌, List, length, slice_index, nat_eq, Bool, true}
 use Rattle.wt_tile.specs.declared.tile.Tile.{Tile}
-use Rattle.wt_grid.specs.declared.axis.Axis.TheVariants.{One}
+use Rattle.wt_grid.specs.declared.axis.Axis.TheVariants.{One, Two}
 use Rattle.wt_tile.specs.Matching.{matches}
 use Rattle.wt_lane.specs.Masks.{mask_bit}
 use Rattle.wt_mask.specs.Masks.{mask_at}
 use Rattle.wt_strip.specs.Layers.{IsRow, IsUnder}
+use Rattle.wt_strip.specs.Listed.{IsUpon}
 
 -- the mask of a column allows tile t
 abbrev pub column_allows : List ℕ → ℕ → Bool
@@ -42,3 +43,15 @@ IsNotBehind w p q = AreAlike w p q ⊎ ((x : ℕ) × (x < w) × AreAlike x p q �
 -- upon the first n tiles of row p a valid row of n tiles can be laid
 abbrev pub CanBear : List Tile → ℕ → List ℕ → Type 0
 CanBear ts n p = (q : List ℕ) × IsRow ts n q × IsUnder ts n p q
+
+-- tile u may stand behind a tile of the mask of a column
+abbrev pub StandsBehind : List Tile → List ℕ → ℕ → Type 0
+StandsBehind ts column u = (t : ℕ) × (mask_bit column t ≡ 1) × (u < length ts) × (matches ts One t u ≡ true)
+
+-- the same tiles may stand above the first n tiles of p and of q, column by column
+abbrev pub ShowAlike : List Tile → ℕ → List ℕ → List ℕ → Type 0
+ShowAlike ts n p q = (x t : ℕ) → x < n → matches ts Two (slice_index p x) t ≡ matches ts Two (slice_index q x) t
+
+-- each valid row upon a row of the first list lies upon one of the second too
+abbrev pub BearNoOther : List Tile → ℕ → List ℕ → List ℕ → Type 0
+BearNoOther ts w cells more = (q : List ℕ) → IsUpon ts w 1 cells q → IsUpon ts w 1 more q

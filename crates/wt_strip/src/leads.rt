@@ -1,9 +1,9 @@
 //! Rows that stand for the rows of a layer: upon them the same rows can be laid, and rows that show the same colours to
 //! the north count once.
-ghost use Rattle.std.specs.Prelude.{◌≡◌, ◌<◌, ◌≤◌, ℕ, List, length, slice_index, IfOk};
+ghost use Rattle.std.specs.Prelude.{◌≡◌, ◌≤◌, ℕ, length, IfOk};
 ghost use Rattle.wt_tile.specs.Matching.{matches};
-ghost use Rattle.wt_strip.specs.Layers.{IsRow, IsUnder};
-ghost use Rattle.wt_strip.specs.Listed.{rows_in, IsAscending, IsUpon};
+ghost use Rattle.wt_strip.specs.Listed.{rows_in, IsAscending};
+ghost use Rattle.wt_strip.specs.Walks.{ShowAlike, BearNoOther};
 
 use crate::gather::push_row;
 use crate::limits::MAX_COLUMNS;
@@ -31,7 +31,7 @@ fn lead(sides: &Sides<'_>, a: u16) -> u16
 fn lead_row(sides: &Sides<'_>, p: &[u16]) -> [u16; MAX_COLUMNS]
     requires narrow { length p.now ≤ MAX_COLUMNS }
     ensures long { length result ≡ MAX_COLUMNS }
-    ensures same { (x t : ℕ) → x < length p.now → matches sides.now.tiles.now Axis.Two (slice_index result x) t ≡ matches sides.now.tiles.now Axis.Two (slice_index p.now x) t }
+    ensures same { ShowAlike sides.now.tiles.now (length p.now) result p.now }
 {
     let mut leads = [0u16; MAX_COLUMNS];
     for x in 0..p.len() {
@@ -50,8 +50,8 @@ pub fn lead_rows(
     requires wide { 1 ≤ w }
     requires narrow { w ≤ MAX_COLUMNS }
     requires ascending { IsAscending w below.now (rows_in w below.now) }
-    ensures upon { IfOk result (λ leads. (q : List ℕ) → IsUpon sides.now.tiles.now w 1 leads.items q → IsUpon sides.now.tiles.now w 1 below.now q) }
-    ensures all { IfOk result (λ leads. (q : List ℕ) → IsUpon sides.now.tiles.now w 1 below.now q → IsUpon sides.now.tiles.now w 1 leads.items q) }
+    ensures upon { IfOk result (λ leads. BearNoOther sides.now.tiles.now w leads.items below.now) }
+    ensures all { IfOk result (λ leads. BearNoOther sides.now.tiles.now w below.now leads.items) }
 {
     let mut leads = Vec::new(alloc);
     let mut r = bearing_from(sides, w, below, 0);

@@ -4,7 +4,7 @@ ghost use Rattle.wt_tile.specs.Matching.{matches};
 ghost use Rattle.wt_lane.specs.Masks.{mask_bit};
 ghost use Rattle.wt_strip.specs.Layers.{IsRow, IsUnder};
 ghost use Rattle.wt_strip.specs.Listed.{rows_in, row_at, IsAscending, IsListed};
-ghost use Rattle.wt_strip.specs.Walks.{column_allows, is_allowed, IsWay, MayCome, IsPruned, CanBear, AreAlike, IsNotBehind};
+ghost use Rattle.wt_strip.specs.Walks.{column_allows, is_allowed, IsWay, MayCome, IsPruned, CanBear, StandsBehind, AreAlike, IsNotBehind};
 
 use crate::limits::MAX_COLUMNS;
 use crate::rows::{past_alike, place_of, row};
@@ -121,8 +121,8 @@ fn before(sides: &Sides<'_>, next: &[u64; 4]) -> [u64; 4]
 
 /// The tiles that may stand behind a tile of a column.
 fn behind(sides: &Sides<'_>, column: &[u64; 4]) -> [u64; 4]
-    ensures stands { (u : ℕ) → mask_bit result u ≡ 1 → (t : ℕ) × (mask_bit column.now t ≡ 1) × (u < length sides.now.tiles.now) × (matches sides.now.tiles.now Axis.One t u ≡ true) }
-    ensures all { (t u : ℕ) → u < length sides.now.tiles.now → mask_bit column.now t ≡ 1 → matches sides.now.tiles.now Axis.One t u ≡ true → mask_bit result u ≡ 1 }
+    ensures stands { (u : ℕ) → mask_bit result u ≡ 1 → StandsBehind sides.now.tiles.now column.now u }
+    ensures all { (u : ℕ) → StandsBehind sides.now.tiles.now column.now u → mask_bit result u ≡ 1 }
 {
     let mut mask = [0u64; 4];
     let mut from = 0usize;

@@ -34,3 +34,9 @@ tiles-preserved c =
   where
     sym_of : {x y : ℕ} → x ≡ y → x ≡ 1 → y ≡ 1
     sym_of e f = sym e ∙ f
+
+pub returns-clause-all : goal.returns-clause-all
+returns-clause-all c = λ u s. elim (cases_lt s.0 c.tiles.from) [
+  | inl less ↦ c.tiles.invariant.all s.0 u s.2 less s.1 s.3
+  | inr ge ↦ absurd (let none = c.in_default.ensures s.0 ge in let set = s.1 in omega (arith, none, set))
+]

@@ -36,7 +36,10 @@ loop-x-preserved c =
           (ended c.args.sides.now.tiles.now c.args.p.now c.loop-x.x b.0 c.beside-ends.result c.loop-x.next c.and_into.new.a c.beside-ends.ensures c.loop-x.invariant.stands c.and_into.ensures b.1) b.3;
       all = λ u lt f.
           let x = c.loop-x.x in
-          c.behind-next.ensures.all (slice_index f.0 x) u lt
-          (kept_end c.args.sides.now.tiles.now c.args.p.now x f.0 c.beside-ends.result c.loop-x.next c.and_into.new.a c.beside-ends.ensures c.loop-x.invariant.all c.and_into.ensures f.1 f.2)
-          (f.3 x (omega arith));
+          c.behind-next.ensures.all u (
+            slice_index f.0 x,
+            kept_end c.args.sides.now.tiles.now c.args.p.now x f.0 c.beside-ends.result c.loop-x.next c.and_into.new.a c.beside-ends.ensures c.loop-x.invariant.all c.and_into.ensures f.1 f.2,
+            lt,
+            f.3 x (omega arith),
+          );
     }
