@@ -5,7 +5,7 @@ ghost use Rattle.wt_window.specs.Frames.{HasAllFillings};
 ghost use Rattle.wt_window.specs.Surrounded.{IsRow, IsSpentRow, IsUnmatched, allowed};
 ghost use Rattle.wt_window.specs.Outcomes.{MayAnswerTable};
 
-use crate::search::{Found, find, open_masks};
+use crate::search::{Found, blocks_for, find, open_masks};
 use crate::tables::Tables;
 use std::alloc::Global;
 use std::marker::Model;
@@ -80,12 +80,14 @@ fn row(
     radius: u8,
     unplaced: &[[u64; 4]; MAX_CELLS],
     filled: &mut [u16],
+    blocks: &mut [[[u64; 4]; MAX_CELLS]],
     budget: u64,
 ) -> Result<[u64; 4], u16>
     requires radius { radius ≤ 4 }
     requires stand { HasAllFillings tables.now.tiles.now axis radius unplaced.now }
     requires first { a < length tables.now.tiles.now }
     requires long { length filled.old ≡ cells (window axis 0 0 radius) }
+    requires room { length filled.old < length blocks.old }
     ensures row { IfOk result (λ mask. IsRow tables.now.tiles.now axis a radius (length tables.now.tiles.now) mask) }
     ensures none { IfOk result (λ mask. IsUnmatched tables.now.tiles.now axis a (length tables.now.tiles.now) budget) }
     ensures spent { (b : ℕ) → result ≡ Err b → IsSpentRow tables.now.tiles.now axis a b radius budget }
@@ -95,7 +97,9 @@ fn row(
         if !is_match(tables.tiles, axis, a, b as u16) {
             continue;
         }
-        match find(tables, axis, a, b as u16, radius, unplaced, filled, budget) {
+        match find(
+            tables, axis, a, b as u16, radius, unplaced, filled, blocks, budget,
+        ) {
             Found::Spent => return Err(b as u16),
             Found::Nothing { left: _ } => continue,
             Found::Window => set_bit(&mut mask, b),
@@ -123,8 +127,20 @@ fn table_with(
     let unplaced = open_masks(tables, axis, radius);
     let mut cells = [0u16; MAX_CELLS];
     let filled = &mut cells[..shape.0 * shape.1];
+    let Ok(mut blocks) = blocks_for(alloc, filled.len()) else {
+        return Err(TableEnd::OutOfMemory);
+    };
     for a in 0..count {
-        match row(tables, axis, a as u16, radius, &unplaced, filled, budget) {
+        match row(
+            tables,
+            axis,
+            a as u16,
+            radius,
+            &unplaced,
+            filled,
+            blocks.as_mut_slice(),
+            budget,
+        ) {
             Err(b) => return Err(TableEnd::Spent { a: a as u16, b }),
             Ok(mask) => {
                 let Ok(()) = rows.push(mask) else {

@@ -1,5 +1,5 @@
 //! The search of a window, depth first in reading order.
-ghost use Rattle.std.specs.Prelude.{◌≡◌, ◌≢◌, ◌⊎◌, ℕ, ◌+◌, ◌-◌, ◌*◌, ◌%◌, ◌<◌, ◌≤◌, ◌&&◌, List, length, take, slice_index, slice_set, nat_lt, nat_eq};
+ghost use Rattle.std.specs.Prelude.{◌≡◌, ◌≢◌, ◌⊎◌, ℕ, ◌+◌, ◌-◌, ◌*◌, ◌%◌, ◌<◌, ◌≤◌, ◌&&◌, true, List, length, take, slice_index, slice_set, nat_lt, nat_eq, IfOk};
 ghost use Rattle.wt_grid.specs.Order.{IsBefore};
 ghost use Rattle.wt_lane.specs.Masks.{mask_bit};
 ghost use Rattle.wt_window.specs.Trials.{IsFilling, cells, may_follow, implies, trials_from, trials};
@@ -12,6 +12,7 @@ ghost use Rattle.wt_pattern.specs.Windows.{IsEmptyWindow};
 use crate::carry::propagate;
 use crate::frame::{Frame, frame_of};
 use crate::tables::Tables;
+use std::alloc::{AllocError, Global};
 use wt_grid::MAX_TILES;
 use wt_lane::and_into;
 use wt_mask::{next_bit, single};
@@ -113,20 +114,39 @@ fn fill(
     place(masks, at, tile);
 }
 
+/// Whether a mask has a tile from this one on.
+fn has_from(mask: &[u64; 4], from: usize) -> bool
+    ensures { (t : ℕ) → from ≤ t → mask_bit mask.now t ≡ 1 → result ≡ true }
+{
+    next_bit(mask, from).is_some()
+}
+
+/// Copies masks, where they are wanted again.
+fn copy_if(wanted: bool, from: &[[u64; 4]; MAX_CELLS], to: &mut [[u64; 4]; MAX_CELLS])
+    ensures { wanted ≡ true → to.new ≡ from.now }
+{
+    if wanted {
+        *to = *from;
+    }
+}
+
 /// Fills the cells from one on, the least tiles first, where the masks have all tiles of the windows that
-/// begin with what is filled.
+/// begin with what is filled. A block to spare for each cell keeps the masks while a tile is tried, where
+/// another may have to be tried after it.
 fn search(
     tables: &Tables<'_>,
     frame: &Frame,
     filled: &mut [u16],
     at: usize,
     masks: &mut [[u64; 4]; MAX_CELLS],
+    spare: &mut [[[u64; 4]; MAX_CELLS]],
     changed: u128,
     budget: u64,
 ) -> Found
     requires frame { IsFrame (length tables.now.tiles.now) (frame_window frame.now) }
     requires long { length filled.old ≡ cells (frame_window frame.now) }
     requires within { at ≤ length filled.old }
+    requires room { length filled.old ≤ at + length spare.old }
     requires begun { IsFilling tables.now.tiles.now (frame_window frame.now) at (take at filled.old) }
     requires whole { HasAllFrom tables.now.tiles.now frame.now at filled.old masks.old }
     ensures same { take at filled.new ≡ take at filled.old }
@@ -151,22 +171,24 @@ fn search(
     if at == filled.len() {
         return Found::Window;
     }
+    let Some((kept, spare)) = spare.split_first_mut() else {
+        unreachable!()
+    };
     let mut fit = followers(tables, frame, filled, at);
     and_into(&mut fit, &masks[at]);
     let mut from = 0usize;
     'tiles: while let Some(tile) = next_bit(&fit, from) {
-        let mut next = *masks;
-        fill(tables, frame, filled, at, &mut next, tile);
-        let news = if masks[at] == next[at] {
-            0
-        } else {
-            1u128 << at
-        };
-        match search(tables, frame, filled, at + 1, &mut next, news, left) {
+        let again = has_from(&fit, tile + 1);
+        copy_if(again, masks, kept);
+        let before = masks[at];
+        fill(tables, frame, filled, at, masks, tile);
+        let news = if masks[at] == before { 0 } else { 1u128 << at };
+        match search(tables, frame, filled, at + 1, masks, spare, news, left) {
             Found::Nothing { left: rest } => left = rest,
             Found::Window => return Found::Window,
             Found::Spent => return Found::Spent,
         }
+        copy_if(again, kept, masks);
         from = tile + 1;
     }
     Found::Nothing { left }
@@ -183,17 +205,19 @@ pub fn open_masks(tables: &Tables<'_>, axis: Axis, radius: u8) -> [[u64; 4]; MAX
     masks
 }
 
-/// Looks for the least window of a frame.
+/// Looks for the least window of a frame. A block for each cell, and one more, serve the search.
 fn find_in(
     tables: &Tables<'_>,
     frame: &Frame,
     unplaced: &[[u64; 4]; MAX_CELLS],
     filled: &mut [u16],
+    blocks: &mut [[[u64; 4]; MAX_CELLS]],
     budget: u64,
 ) -> Found
     requires frame { IsFrame (length tables.now.tiles.now) (frame_window frame.now) }
     requires stand { (g : List ℕ) → IsWhole tables.now.tiles.now frame.now g → Stand unplaced.now g }
     requires long { length filled.old ≡ cells (frame_window frame.now) }
+    requires room { length filled.old < length blocks.old }
     ensures window { result ≡ Found.Window → IsWhole tables.now.tiles.now frame.now filled.new }
     ensures least { result ≡ Found.Window → (g : List ℕ) → IsWhole tables.now.tiles.now frame.now g
         → (filled.new ≡ g) ⊎ IsBefore filled.new g }
@@ -201,11 +225,22 @@ fn find_in(
     ensures at_zero { budget ≡ 0 → result ≡ Found.Spent }
     ensures spent { result ≡ Found.Spent → budget < trials tables.now.tiles.now (frame_window frame.now) }
 {
-    let mut masks = *unplaced;
-    place(&mut masks, frame.first, usize::from(frame.a));
-    place(&mut masks, frame.second, usize::from(frame.b));
+    let Some((masks, spare)) = blocks.split_first_mut() else {
+        unreachable!()
+    };
+    *masks = *unplaced;
+    place(masks, frame.first, usize::from(frame.a));
+    place(masks, frame.second, usize::from(frame.b));
     let changed = 1u128 << frame.first | 1u128 << frame.second;
-    search(tables, frame, filled, 0, &mut masks, changed, budget)
+    search(tables, frame, filled, 0, masks, spare, changed, budget)
+}
+
+/// The blocks of masks that searches of windows of so many cells take, a block for each cell and one more.
+pub fn blocks_for(alloc: Global, cells: usize) -> Result<Vec<[[u64; 4]; MAX_CELLS]>, AllocError>
+    requires { cells ≤ MAX_CELLS }
+    ensures { IfOk result (λ blocks. cells < length blocks.items) }
+{
+    vec![in alloc; [[0u64; 4]; MAX_CELLS]; cells + 1]
 }
 
 /// Looks for the least window of radius `radius` round a and b, b following a along the axis.
@@ -217,6 +252,7 @@ pub fn find(
     radius: u8,
     unplaced: &[[u64; 4]; MAX_CELLS],
     filled: &mut [u16],
+    blocks: &mut [[[u64; 4]; MAX_CELLS]],
     budget: u64,
 ) -> Found
     requires radius { radius ≤ 4 }
@@ -224,6 +260,7 @@ pub fn find(
     requires first { a < length tables.now.tiles.now }
     requires second { b < length tables.now.tiles.now }
     requires long { length filled.old ≡ cells (spec.window axis a b radius) }
+    requires room { length filled.old < length blocks.old }
     ensures window { result ≡ Found.Window
         → IsLeastWindow tables.now.tiles.now axis a b radius (record { width = (spec.window axis a b radius).width; height = (spec.window axis a b radius).height; cells = filled.new }) }
     ensures nothing { (left : ℕ) → result ≡ Found.Nothing left → IsEmptyWindow tables.now.tiles.now axis a b radius }
@@ -231,5 +268,5 @@ pub fn find(
     ensures spent { result ≡ Found.Spent → budget < trials tables.now.tiles.now (spec.window axis a b radius) }
 {
     let frame = frame_of(axis, a, b, radius);
-    find_in(tables, &frame, unplaced, filled, budget)
+    find_in(tables, &frame, unplaced, filled, blocks, budget)
 }

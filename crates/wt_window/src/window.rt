@@ -3,7 +3,7 @@ ghost use Rattle.std.specs.Prelude.{◌≡◌, ◌<◌, ◌≤◌, length, true}
 ghost use Rattle.wt_tile.specs.Matching.{matches};
 ghost use Rattle.wt_window.specs.Outcomes.{MayAnswerWindow};
 
-use crate::search::{Found, find, open_masks};
+use crate::search::{Found, blocks_for, find, open_masks};
 use crate::tables::Tables;
 use std::alloc::Global;
 use wt_pattern::{MAX_CELLS, Pattern, window_shape};
@@ -39,7 +39,20 @@ fn least_window(
     let unplaced = open_masks(tables, axis, radius);
     let mut cells = [0u16; MAX_CELLS];
     let filled = &mut cells[..shape.0 * shape.1];
-    match find(tables, axis, a, b, radius, &unplaced, filled, budget) {
+    let Ok(mut blocks) = blocks_for(alloc, filled.len()) else {
+        return Err(WindowEnd::OutOfMemory);
+    };
+    match find(
+        tables,
+        axis,
+        a,
+        b,
+        radius,
+        &unplaced,
+        filled,
+        blocks.as_mut_slice(),
+        budget,
+    ) {
         Found::Spent => Err(WindowEnd::Spent),
         Found::Nothing { left: _ } => Ok(None),
         Found::Window => match Vec::from_slice(alloc, filled) {

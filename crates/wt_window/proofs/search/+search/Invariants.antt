@@ -1,6 +1,7 @@
 use Rattle.std.proofs.Common.{◌≡◌, ℕ, ◌+◌, ◌-◌, ◌<◌, ◌≤◌, List, length, take, get_or}
 use Rattle.wt_window.specs.Trials.{IsFilling, cells}
-use Rattle.wt_window.specs.Frames.{frame_window}
+use Rattle.wt_window.specs.Frames.{frame_window, HasAllFrom}
+use Rattle.wt_lane.specs.Masks.{mask_bit}
 use Rattle.wt_window.proofs.Searched.{tried}
 use Rattle.wt_window.proofs.search.+search.Given as goal
 
@@ -13,6 +14,8 @@ invariant-tiles l = record {
   within : l.at < length l.filled;
   same : take l.at l.filled ≡ take l.at l.fn.filled;
   low : l.from ≤ length l.tables.tiles.now;
+  room : length l.filled ≤ l.at + 1 + length l.spare;
+  whole : (t : ℕ) → l.from ≤ t → mask_bit l.fit t ≡ 1 → HasAllFrom l.tables.tiles.now l.frame l.at l.fn.filled l.masks;
   none : (g : List ℕ) → IsFilling l.tables.tiles.now (frame_window l.frame) (cells (frame_window l.frame)) g → take l.at g ≡ take l.at l.fn.filled → get_or g l.at 0 < l.from → ⊥;
   paid : l.budget ≤ l.left + 1 + tried l.tables.tiles.now (frame_window l.frame) (cells (frame_window l.frame) - (l.at + 1)) (take l.at l.fn.filled) l.from;
 }
