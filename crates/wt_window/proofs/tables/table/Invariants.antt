@@ -6,5 +6,5 @@ use Rattle.wt_window.proofs.tables.table.Given as goal
 abbrev pub invariant-loop-t : goal.invariant-loop-t
 invariant-loop-t l = record {
   long : length l.rows.items ≡ l.t;
-  masks : (t u : ℕ) → t < l.t → mask_bit (mask_at l.rows.items t) u ≡ bit (nat_lt u (length l.sides.tiles.now) && may_stand l.sides.tiles.now l.way t u);
+  masks : (t u : ℕ) → t < l.t → mask_bit (mask_at l.rows.items t) u ≡ bit (nat_lt u (length l.tiles) && may_stand l.tiles l.way t u);
 }
