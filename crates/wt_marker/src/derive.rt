@@ -42,6 +42,7 @@ fn on_axis<'a>(axis: Axis, one: &'a DominoTable, two: &'a DominoTable) -> &'a Do
 fn refute_axis(
     alloc: Global,
     set: SetRef<'_>,
+    sides: &Sides<'_>,
     axis: Axis,
     radius: u8,
     table: &DominoTable,
@@ -49,6 +50,7 @@ fn refute_axis(
     forest: &mut Forest,
 ) -> Result<(), DeriveEnd>
     requires radius { radius ≤ 4 }
+    requires same { sides.now.tiles.now ≡ set.list.now.tiles }
     requires tells { Tells set.list.now.tiles axis radius (allowed table.now) }
     requires few { forest.old.nodes ≤ MAX_NODES + 1 }
     ensures nodes { OnOk result (forest.new.nodes ≡ with_more forest.old.nodes (nodes_in set.entry.list.now.tiles radius axis (allowed table.now))) }
@@ -61,8 +63,7 @@ fn refute_axis(
         Ok(pairs) => pairs,
         Err(AllocError) => return Err(DeriveEnd::OutOfMemory),
     };
-    let sides = Sides::new(set.tiles());
-    plant_all(alloc, &sides, axis, radius, &pairs, budget, forest)
+    plant_all(alloc, sides, axis, radius, &pairs, budget, forest)
 }
 
 fn no_trees(alloc: Global) -> Forest
@@ -79,12 +80,14 @@ fn no_trees(alloc: Global) -> Forest
 fn refute_all(
     alloc: Global,
     set: SetRef<'_>,
+    sides: &Sides<'_>,
     radius: u8,
     one: &DominoTable,
     two: &DominoTable,
     budget: u64,
 ) -> Result<Vec<Refuted>, DeriveEnd>
     requires radius { radius ≤ 4 }
+    requires same { sides.now.tiles.now ≡ set.list.now.tiles }
     requires tells1 { Tells set.list.now.tiles One radius (allowed one.now) }
     requires tells2 { Tells set.list.now.tiles Two radius (allowed two.now) }
     ensures entries { IfOk result (λ out. out.items ≡ entries set.entry.list.now.tiles radius One (allowed one.now) ++ entries set.entry.list.now.tiles radius Two (allowed two.now)) }
@@ -92,11 +95,29 @@ fn refute_all(
     ensures refused { IfErr result (IsReason (spec.trees_fault set.entry.list.now.tiles radius (allowed one.now) (allowed two.now) budget)) }
 {
     let mut forest = no_trees(alloc);
-    match refute_axis(alloc, set, Axis::One, radius, one, budget, &mut forest) {
+    match refute_axis(
+        alloc,
+        set,
+        sides,
+        Axis::One,
+        radius,
+        one,
+        budget,
+        &mut forest,
+    ) {
         Err(end) => return Err(end),
         Ok(()) => {}
     }
-    match refute_axis(alloc, set, Axis::Two, radius, two, budget, &mut forest) {
+    match refute_axis(
+        alloc,
+        set,
+        sides,
+        Axis::Two,
+        radius,
+        two,
+        budget,
+        &mut forest,
+    ) {
         Err(end) => return Err(end),
         Ok(()) => {}
     }
@@ -181,7 +202,15 @@ fn derive_raw(
         Ok(coarse) => coarse,
         Err(end) => return Err(end),
     };
-    let refuted = match refute_all(alloc, set, radius, one, two, budget) {
+    let refuted = match refute_all(
+        alloc,
+        set,
+        &Sides::new(set.tiles()),
+        radius,
+        one,
+        two,
+        budget,
+    ) {
         Ok(refuted) => refuted,
         Err(end) => return Err(end),
     };
