@@ -240,7 +240,12 @@ pub fn blocks_for(alloc: Global, cells: usize) -> Result<Vec<[[u64; 4]; MAX_CELL
     requires { cells ≤ MAX_CELLS }
     ensures { IfOk result (λ blocks. cells < length blocks.items) }
 {
-    vec![in alloc; [[0u64; 4]; MAX_CELLS]; cells + 1]
+    let empty = [[0u64; 4]; MAX_CELLS];
+    let mut blocks = Vec::with_capacity(alloc, cells + 1)?;
+    'growth: while blocks.len() <= cells {
+        blocks.push(empty)?;
+    }
+    Ok(blocks)
 }
 
 /// Looks for the least window of radius `radius` round a and b, b following a along the axis.
