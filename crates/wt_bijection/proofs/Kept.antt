@@ -10,7 +10,7 @@ use Rattle.std.proofs.lemmas.List.FromFn.{get_or-map-range_with_len, length-map-
 use Rattle.wt_tile.specs.declared.tile.Tile.{Tile}
 use Rattle.wt_tile.specs.Matching.{tile_at, ahead, behind}
 use Rattle.wt_bijection.specs.Carried.{CarriesColours, IsRenaming}
-use Rattle.wt_bijection.specs.Labels.{scrambled, wrapped, sum_below, share, colour_label, next_label, next_labels, rounds, marked, summand, label_sum, apart_label, apart_labels}
+use Rattle.wt_bijection.specs.Labels.{scrambled, wrapped, sum_below, share, colour_label, next_label, label_or_zero, next_labels, rounds, marked, summand, label_sum, apart_label, apart_labels}
 use Rattle.wt_bijection.specs.Kept.{AreKept, AreSmall}
 use Rattle.wt_bijection.proofs.Carried.{carry_ff, carry_fg, flipped}
 use Rattle.wt_bijection.proofs.Totals.{total_same, total_permuted, IsPermuted}
@@ -74,13 +74,15 @@ module _ (from to : List Tile) (own other list : List ℕ) (r : IsRenaming from 
     unfolding next_label
     same_next j lj = rw (kept j lj, same_ahead One j lj, same_ahead Two j lj, same_behind One j lj, same_behind Two j lj) refl
 
-next_at : (tiles : List Tile) (labels : List ℕ) (i : ℕ) → i < 256 → slice_index (next_labels tiles labels) i ≡ next_label tiles labels i
+next_at : (tiles : List Tile) (labels : List ℕ) (i : ℕ) → i < 256 → i < length tiles → slice_index (next_labels tiles labels) i ≡ next_label tiles labels i
 unfolding next_labels
-next_at tiles labels i lt = get_or-map-range_with_len (next_label tiles labels) 0 256 i i 0 lt (omega arith)
+next_at tiles labels i lt inside =
+    let is : nat_lt i (length tiles) ≡ true = grind (arith, nat_tests, inside) in
+    get_or-map-range_with_len (label_or_zero tiles labels) 0 256 i i 0 lt (omega arith) ∙ (rw is refl)
 
 pub next_length : (tiles : List Tile) (labels : List ℕ) → length (next_labels tiles labels) ≡ 256
 unfolding next_labels
-next_length tiles labels = length-map-range_with_len (next_label tiles labels) 0 256
+next_length tiles labels = length-map-range_with_len (label_or_zero tiles labels) 0 256
 
 module _ (from to : List Tile) (list : List ℕ) (r : IsRenaming from to list) where
   -- the renaming carries each tile onto one with the same label
@@ -92,7 +94,7 @@ module _ (from to : List Tile) (list : List ℕ) (r : IsRenaming from to list) w
     keeps_next own other small small' kept = λ i lt.
         let a = r.alike in
         let below = r.inside i lt in
-        next_at from own i (omega arith) ∙ (same_next from to own other list r kept small small' i lt ∙ sym (next_at to other (slice_index list i) (omega arith)))
+        next_at from own i (omega arith) lt ∙ (same_next from to own other list r kept small small' i lt ∙ sym (next_at to other (slice_index list i) (omega arith) below))
 
     keeps_rounds : (n : ℕ) (own other : List ℕ) → AreSmall from → AreSmall to → Keeps own other → Keeps (rounds from n own) (rounds to n other)
     keeps_rounds zero own other small small' kept = kept
@@ -155,8 +157,8 @@ kept_apart n from to start own other few small small' wide wide' kept = λ list 
     ∙ (keeps_sum from to list r (rounds from n (marked own i)) (rounds to n (marked other (slice_index list i))) k
     ∙ sym (apart_at to n other (slice_index list i) (omega arith) below))
 
+pub zero_at : (i : ℕ) → ◌≡◌ {A = ℕ} (get_or (replicate 256 0) i 0) 0
+zero_at i = elim (cases_lt i 256) [ inl lt ↦ get_or-replicate 256 i 0 0 lt | inr ge ↦ get_or_past (replicate 256 0) i 0 ge ]
+
 pub kept_plain : (from to : List Tile) → AreKept from to [] (replicate 256 0) (replicate 256 0)
 kept_plain from to = λ list r begins i lt. zero_at i ∙ sym (zero_at (slice_index list i))
-  where
-    zero_at : (i : ℕ) → ◌≡◌ {A = ℕ} (get_or (replicate 256 0) i 0) 0
-    zero_at i = elim (cases_lt i 256) [ inl lt ↦ get_or-replicate 256 i 0 0 lt | inr ge ↦ get_or_past (replicate 256 0) i 0 ge ]

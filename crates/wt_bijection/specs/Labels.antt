@@ -47,9 +47,13 @@ next_label tiles labels i =
     (colour_label One tiles labels (behind One (tile_at tiles i))))
     (colour_label Two tiles labels (behind Two (tile_at tiles i)))
 
+-- the next label of tile i, and 0 past the last tile
+abbrev pub label_or_zero : List Tile → List ℕ → ℕ → ℕ
+label_or_zero tiles labels i = if nat_lt i (length tiles) then next_label tiles labels i else 0
+
 -- the next labels of 256 tiles
 unfoldable pub next_labels : List Tile → List ℕ → List ℕ
-next_labels tiles labels = map (next_label tiles labels) (range_with_len 0 MAX_TILES)
+next_labels tiles labels = map (label_or_zero tiles labels) (range_with_len 0 MAX_TILES)
 
 -- n rounds
 abbrev pub rounds : List Tile → ℕ → List ℕ → List ℕ

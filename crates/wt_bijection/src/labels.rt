@@ -1,6 +1,6 @@
 // Labels of tiles: numbers that tell tiles of two sets apart which no renaming carries onto each other.
 // A tile's label takes in those of its colours, and a colour's those of the tiles that show it, so that after some rounds a label tells of all that hangs together with its tile.
-ghost use Rattle.std.specs.Prelude.{◌≡◌, ◌<◌, ◌≤◌, ℕ, length, slice_index, nat_lt, if◌then◌else◌};
+ghost use Rattle.std.specs.Prelude.{◌≡◌, ◌<◌, ◌≤◌, ℕ, length, replicate, slice_index, nat_lt, if◌then◌else◌};
 ghost use Rattle.wt_grid.specs.declared.axis.Axis.TheVariants.{One, Two};
 ghost use Rattle.wt_bijection.specs.Labels.{scrambled, added, colour_label};
 ghost use Rattle.wt_bijection.specs.Labels as spec;
@@ -83,14 +83,20 @@ fn next_label(
     mixed(west, label_at(two, tile.south))
 }
 
+fn no_labels() -> Labels
+    ensures { result ≡ replicate MAX_TILES 0 }
+{
+    [0; MAX_TILES]
+}
+
 fn next_labels(tiles: &[Tile], labels: &Labels) -> Labels
     requires { length tiles.now ≤ MAX_TILES }
     ensures { result ≡ spec.next_labels tiles.now labels.now }
 {
     let one = colour_labels(Axis::One, tiles, labels);
     let two = colour_labels(Axis::Two, tiles, labels);
-    let mut next = [0u64; MAX_TILES];
-    for i in 0..256u16 {
+    let mut next = no_labels();
+    for i in 0..tiles.len() as u16 {
         next[usize::from(i)] = next_label(tiles, labels, i, &one, &two);
     }
     next
