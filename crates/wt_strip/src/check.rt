@@ -12,7 +12,7 @@ ghost use Rattle.wt_strip.specs.Exact.{IsStranger, HasMissing, IsLayerFault, IsE
 use crate::limits::{MAX_COLUMNS, MAX_LAYERS};
 use crate::rows::{drop_in, past_alike, row};
 use crate::shape::is_shaped;
-use crate::walk::{all_allowed, allowed_upon, bearing_from, misses};
+use crate::walk::{all_allowed, allow_upon, bearing_from, misses, none_allowed};
 use crate::{Layers, StripFault};
 use wt_mask::Sides;
 use wt_tile::{Axis, SetRef, Tile, is_match};
@@ -107,11 +107,13 @@ fn has_missing(sides: &Sides<'_>, w: usize, n: usize, below: &[u16], cells: &[u1
     ensures whole { result ≡ false → (q : List ℕ) → IsUpon sides.now.tiles.now w n below.now q → IsListed w cells.now q }
 {
     if n == 0 {
-        return misses(sides, w, &all_allowed(sides), cells);
+        return misses(sides, w, &mut all_allowed(sides), cells);
     }
+    let mut allowed = none_allowed();
     let mut r = bearing_from(sides, w, below, 0);
     'rows: while r < below.len() / w {
-        if misses(sides, w, &allowed_upon(sides, row(w, below, r)), cells) {
+        allow_upon(sides, row(w, below, r), &mut allowed);
+        if misses(sides, w, &mut allowed, cells) {
             return true;
         }
         r = bearing_from(sides, w, below, r + 1);

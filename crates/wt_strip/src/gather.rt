@@ -5,7 +5,7 @@ ghost use Rattle.wt_strip.specs.Walks.{IsWay, AreAlike};
 ghost use Rattle.wt_strip.specs.Gathered.{AreGathered, HasAllGathered};
 
 use crate::limits::MAX_COLUMNS;
-use crate::walk::{Columns, coming, pruned};
+use crate::walk::{Columns, coming, prune};
 use std::alloc::{AllocError, Global};
 use wt_mask::{Sides, next_bit};
 
@@ -62,22 +62,22 @@ pub fn gathered(
     alloc: Global,
     sides: &Sides<'_>,
     w: usize,
-    allowed: &Columns,
+    allowed: &mut Columns,
     room: usize,
 ) -> Result<(Vec<u16>, bool), AllocError>
     requires wide { 1 ≤ w }
     requires narrow { w ≤ MAX_COLUMNS }
-    ensures all { IfOk result (λ found. found.1 ≡ true → IsListOf (λ q. (length q ≡ w) × IsWay sides.now.tiles.now allowed.now w q) w found.0.items) }
+    ensures all { IfOk result (λ found. found.1 ≡ true → IsListOf (λ q. (length q ≡ w) × IsWay sides.now.tiles.now allowed.old w q) w found.0.items) }
     ensures sorted { IfOk result (λ found. IsSorted w found.0.items) }
     ensures right { IfOk result (λ found. (r : ℕ) → r < rows_in w found.0.items
-        → (length (row_at w found.0.items r) ≡ w) × IsWay sides.now.tiles.now allowed.now w (row_at w found.0.items r)) }
+        → (length (row_at w found.0.items r) ≡ w) × IsWay sides.now.tiles.now allowed.old w (row_at w found.0.items r)) }
     ensures more { IfOk result (λ found. found.1 ≡ false → room < rows_in w found.0.items) }
 {
     let mut cells = Vec::new(alloc);
-    let Some(left) = pruned(sides, w, allowed) else {
+    if !prune(sides, w, allowed) {
         return Ok((cells, true));
-    };
+    }
     let mut row = [0u16; MAX_COLUMNS];
-    let done = gather_from(sides, w, &left, room, &mut cells, &mut row, 0)?;
+    let done = gather_from(sides, w, allowed, room, &mut cells, &mut row, 0)?;
     Ok((cells, done))
 }

@@ -7,7 +7,7 @@ ghost use Rattle.wt_strip.specs.Stripped.{AreFilled, AreStuckUnder, IsNextRow, I
 use crate::gather::push_row;
 use crate::limits::{MAX_COLUMNS, MAX_LAYERS};
 use crate::rows::row;
-use crate::walk::{all_allowed, allowed_upon, first_missing, misses};
+use crate::walk::{all_allowed, allow_upon, first_missing, misses, none_allowed};
 use std::alloc::{AllocError, Global};
 use wt_mask::Sides;
 use wt_pattern::Pattern;
@@ -31,9 +31,11 @@ fn stuck_in(
 {
     let layer = made[made.len() - 2 - m].as_slice();
     let mut stuck = Vec::new(alloc);
+    let mut allowed = none_allowed();
     for r in 0..layer.len() / w {
         let p = row(w, layer, r);
-        if !misses(sides, w, &allowed_upon(sides, p), above) {
+        allow_upon(sides, p, &mut allowed);
+        if !misses(sides, w, &mut allowed, above) {
             push_row(w, &mut stuck, p)?;
         }
     }
@@ -81,10 +83,11 @@ fn next_row(
     ensures none { result ≡ false → (q : List ℕ) → IsNextRow sides.now.tiles.now w y (take w row.old) q → IsListed w listed.now q }
 {
     if y == 0 {
-        return first_missing(sides, w, &all_allowed(sides), listed, row);
+        return first_missing(sides, w, &mut all_allowed(sides), listed, row);
     }
-    let allowed = allowed_upon(sides, &row[..w]);
-    first_missing(sides, w, &allowed, listed, row)
+    let mut allowed = none_allowed();
+    allow_upon(sides, &row[..w], &mut allowed);
+    first_missing(sides, w, &mut allowed, listed, row)
 }
 
 /// The least valid pattern of as many rows as layers are made, as a list in reading order.

@@ -9,7 +9,7 @@ use crate::leads::lead_rows;
 use crate::limits::MAX_COLUMNS;
 use crate::merge::{in_order, merged};
 use crate::rows::row;
-use crate::walk::{all_allowed, allowed_upon};
+use crate::walk::{Columns, all_allowed, allow_upon, none_allowed};
 use std::alloc::{AllocError, Global};
 use wt_mask::Sides;
 
@@ -21,6 +21,7 @@ fn rows_upon_one(
     below: &[u16],
     r: usize,
     room: usize,
+    allowed: &mut Columns,
 ) -> Result<Option<Vec<u16>>, AllocError>
     requires wide { 1 ≤ w }
     requires narrow { w ≤ MAX_COLUMNS }
@@ -28,13 +29,8 @@ fn rows_upon_one(
     ensures { IfOk result (λ found. MatchOption found (HasMore (IsUponSome sides.now.tiles.now w below.now r (r + 1)) w room)
         (λ cells. IsLayer (IsUponSome sides.now.tiles.now w below.now r (r + 1)) w cells.items)) }
 {
-    let (cells, done) = gathered(
-        alloc,
-        sides,
-        w,
-        &allowed_upon(sides, row(w, below, r)),
-        room,
-    )?;
+    allow_upon(sides, row(w, below, r), allowed);
+    let (cells, done) = gathered(alloc, sides, w, allowed, room)?;
     if done { Ok(Some(cells)) } else { Ok(None) }
 }
 
@@ -47,6 +43,7 @@ fn rows_upon(
     low: usize,
     high: usize,
     room: usize,
+    allowed: &mut Columns,
 ) -> Result<Option<Vec<u16>>, AllocError>
     requires wide { 1 ≤ w }
     requires narrow { w ≤ MAX_COLUMNS }
@@ -56,13 +53,13 @@ fn rows_upon(
         (λ cells. IsLayer (IsUponSome sides.now.tiles.now w below.now low high) w cells.items)) }
 {
     if high - low == 1 {
-        return rows_upon_one(alloc, sides, w, below, low, room);
+        return rows_upon_one(alloc, sides, w, below, low, room, allowed);
     }
     let middle = low + (high - low) / 2;
-    let Some(first) = rows_upon(alloc, sides, w, below, low, middle, room)? else {
+    let Some(first) = rows_upon(alloc, sides, w, below, low, middle, room, allowed)? else {
         return Ok(None);
     };
-    let Some(second) = rows_upon(alloc, sides, w, below, middle, high, room)? else {
+    let Some(second) = rows_upon(alloc, sides, w, below, middle, high, room, allowed)? else {
         return Ok(None);
     };
     let cells = merged(alloc, w, &first, &second)?;
@@ -83,7 +80,8 @@ pub fn first_layer(
     requires narrow { w ≤ MAX_COLUMNS }
     ensures { IfOk result (λ found. MatchOption found (HasMore (IsRow sides.now.tiles.now w) w room) (λ cells. IsLayer (IsRow sides.now.tiles.now w) w cells.items)) }
 {
-    let (cells, done) = gathered(alloc, sides, w, &all_allowed(sides), room)?;
+    let mut allowed = all_allowed(sides);
+    let (cells, done) = gathered(alloc, sides, w, &mut allowed, room)?;
     if done { Ok(Some(cells)) } else { Ok(None) }
 }
 
@@ -106,7 +104,18 @@ pub fn next_layer(
         return Ok(Some(Vec::new(alloc)));
     }
     let leads = in_order(alloc, w, &leads, 0, count)?;
-    let Some(cells) = rows_upon(alloc, sides, w, &leads, 0, leads.len() / w, room)? else {
+    let mut allowed = none_allowed();
+    let Some(cells) = rows_upon(
+        alloc,
+        sides,
+        w,
+        &leads,
+        0,
+        leads.len() / w,
+        room,
+        &mut allowed,
+    )?
+    else {
         return Ok(None);
     };
     Ok(Some(cells))

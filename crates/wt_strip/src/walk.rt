@@ -1,5 +1,5 @@
 //! Walks of rows in ascending order, column by column, and the search for one that isn't listed.
-ghost use Rattle.std.specs.Prelude.{◌≡◌, ◌<◌, ◌≤◌, ◌+◌, ◌-◌, ℕ, List, true, false, length, take, slice_index, MatchOption};
+ghost use Rattle.std.specs.Prelude.{◌≡◌, ◌<◌, ◌≤◌, ◌+◌, ◌-◌, ℕ, List, true, false, length, take, slice_index, replicate, MatchOption};
 ghost use Rattle.wt_tile.specs.Matching.{matches};
 ghost use Rattle.wt_lane.specs.Masks.{mask_bit};
 ghost use Rattle.wt_strip.specs.Layers.{IsRow, IsUnder};
@@ -29,16 +29,21 @@ fn left_of(sides: &Sides<'_>, u: u16) -> [u64; 4]
     sides.beside(Way::Left, u)
 }
 
-/// The tiles that may stand above those of a row, column by column.
-pub fn allowed_upon(sides: &Sides<'_>, p: &[u16]) -> Columns
+/// Lets in each column of a row stand what may stand above its tile.
+pub fn allow_upon(sides: &Sides<'_>, p: &[u16], allowed: &mut Columns)
     requires wide { length p.now ≤ MAX_COLUMNS }
-    ensures { (x t : ℕ) → x < length p.now → t < length sides.now.tiles.now → is_allowed result x t ≡ matches sides.now.tiles.now Axis.Two (slice_index p.now x) t }
+    ensures { (x t : ℕ) → x < length p.now → t < length sides.now.tiles.now → is_allowed allowed.new x t ≡ matches sides.now.tiles.now Axis.Two (slice_index p.now x) t }
 {
-    let mut allowed = [[0u64; 4]; MAX_COLUMNS];
     for x in 0..p.len() {
         allowed[x] = above(sides, p[x]);
     }
-    allowed
+}
+
+/// Nothing in any column.
+pub fn none_allowed() -> Columns
+    ensures { result ≡ replicate MAX_COLUMNS (replicate 4 0) }
+{
+    [[0; 4]; MAX_COLUMNS]
 }
 
 /// Every tile in every column.
@@ -182,31 +187,30 @@ fn narrowed(sides: &Sides<'_>, column: &[u64; 4], next: &[u64; 4]) -> [u64; 4]
     mask
 }
 
-/// The tiles of the columns from which a row can go on to the right end, or None where a column has none. Without this a
-/// walk could turn back too often to end.
-pub fn pruned(sides: &Sides<'_>, w: usize, allowed: &Columns) -> Option<Columns>
+/// Leaves in the columns the tiles from which a row can go on to the right end; false where a column has none. Without this
+/// a walk could turn back too often to end.
+pub fn prune(sides: &Sides<'_>, w: usize, allowed: &mut Columns) -> bool
     requires wide { 1 ≤ w }
     requires narrow { w ≤ MAX_COLUMNS }
-    ensures { MatchOption result ((q : List ℕ) → IsWay sides.now.tiles.now allowed.now w q → ⊥)
-        (λ left. IsPruned sides.now.tiles.now allowed.now w left) }
+    ensures left { result ≡ true → IsPruned sides.now.tiles.now allowed.old w allowed.new }
+    ensures none { result ≡ false → (q : List ℕ) → IsWay sides.now.tiles.now allowed.old w q → ⊥ }
 {
-    let mut left = *allowed;
     for i in 1..w {
         let x = w - i;
-        let column = narrowed(sides, &left[x - 1], &left[x]);
+        let column = narrowed(sides, &allowed[x - 1], &allowed[x]);
         if !any(&column) {
-            return None;
+            return false;
         }
-        left[x - 1] = column;
+        allowed[x - 1] = column;
     }
-    Some(left)
+    true
 }
 
-/// Whether a row that the columns allow isn't listed. The first w tiles of `row` are the least such row then.
+/// Whether a row that the columns allow isn't listed; prunes them. The first w tiles of `row` are the least such row then.
 pub fn first_missing(
     sides: &Sides<'_>,
     w: usize,
-    allowed: &Columns,
+    allowed: &mut Columns,
     cells: &[u16],
     row: &mut [u16; MAX_COLUMNS],
 ) -> bool
@@ -214,23 +218,23 @@ pub fn first_missing(
     requires narrow { w ≤ MAX_COLUMNS }
     requires ascending { IsAscending w cells.now (rows_in w cells.now) }
     ensures long { length row.new ≡ MAX_COLUMNS }
-    ensures missed { result ≡ true → IsWay sides.now.tiles.now allowed.now w row.new × (IsListed w cells.now (take w row.new) → ⊥) }
-    ensures first { result ≡ true → (q : List ℕ) → length q ≡ w → IsWay sides.now.tiles.now allowed.now w q → (IsListed w cells.now q → ⊥) → IsNotBehind w row.new q }
-    ensures none { result ≡ false → (q : List ℕ) → length q ≡ w → IsWay sides.now.tiles.now allowed.now w q → IsListed w cells.now q }
+    ensures missed { result ≡ true → IsWay sides.now.tiles.now allowed.old w row.new × (IsListed w cells.now (take w row.new) → ⊥) }
+    ensures first { result ≡ true → (q : List ℕ) → length q ≡ w → IsWay sides.now.tiles.now allowed.old w q → (IsListed w cells.now q → ⊥) → IsNotBehind w row.new q }
+    ensures none { result ≡ false → (q : List ℕ) → length q ≡ w → IsWay sides.now.tiles.now allowed.old w q → IsListed w cells.now q }
 {
-    let Some(left) = pruned(sides, w, allowed) else {
+    if !prune(sides, w, allowed) {
         return false;
-    };
-    misses_from(sides, w, &left, cells, &mut 0, row, 0)
+    }
+    misses_from(sides, w, allowed, cells, &mut 0, row, 0)
 }
 
-/// Whether a row that the columns allow isn't listed.
-pub fn misses(sides: &Sides<'_>, w: usize, allowed: &Columns, cells: &[u16]) -> bool
+/// Whether a row that the columns allow isn't listed; prunes them.
+pub fn misses(sides: &Sides<'_>, w: usize, allowed: &mut Columns, cells: &[u16]) -> bool
     requires wide { 1 ≤ w }
     requires narrow { w ≤ MAX_COLUMNS }
     requires ascending { IsAscending w cells.now (rows_in w cells.now) }
-    ensures missed { result ≡ true → (q : List ℕ) × (length q ≡ w) × IsWay sides.now.tiles.now allowed.now w q × (IsListed w cells.now q → ⊥) }
-    ensures none { result ≡ false → (q : List ℕ) → length q ≡ w → IsWay sides.now.tiles.now allowed.now w q → IsListed w cells.now q }
+    ensures missed { result ≡ true → (q : List ℕ) × (length q ≡ w) × IsWay sides.now.tiles.now allowed.old w q × (IsListed w cells.now q → ⊥) }
+    ensures none { result ≡ false → (q : List ℕ) → length q ≡ w → IsWay sides.now.tiles.now allowed.old w q → IsListed w cells.now q }
 {
     let mut row = [0u16; MAX_COLUMNS];
     first_missing(sides, w, allowed, cells, &mut row)

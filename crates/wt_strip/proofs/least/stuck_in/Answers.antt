@@ -18,12 +18,12 @@ loop-r-preserved c =
         told = rw w.stuck-is (keep c.args.sides.now.tiles.now c.args.w (suc c.args.m) c.loop-r.r c.as_slice-layer.result.now c.loop-r.stuck.items layer.sorted.ascending i c.row-p.result.now w.push_row.new.cells.items c.requires.wide c.loop-r-test.true here c.row-p.ensures.long
             (w.in_ok-push_row.ensures {u = tt})
             (subst (λ (q : List ℕ). CanRise c.args.sides.now.tiles.now c.args.w (suc c.args.m) q → ⊥) here
-            (stays_under c.args.sides.now.tiles.now c.args.w (length c.args.made.now) c.args.m c.requires.inside c.args.above.now c.row-p.result.now c.allowed_upon.result c.requires.above c.row-p.ensures.long c.allowed_upon.ensures (c.misses.ensures.none w.if-not-misses.true))));
+            (stays_under c.args.sides.now.tiles.now c.args.w (length c.args.made.now) c.args.m c.requires.inside c.args.above.now c.row-p.result.now c.allow_upon.new.allowed c.requires.above c.row-p.ensures.long c.allow_upon.ensures (c.misses.ensures.none w.if-not-misses.true))));
       }
       | else-not-misses w ↦ record {
         told = rw w.stuck-is (skip c.args.sides.now.tiles.now c.args.w (suc c.args.m) c.loop-r.r c.as_slice-layer.result.now c.loop-r.stuck.items layer.sorted.ascending i
             (subst (λ (q : List ℕ). CanRise c.args.sides.now.tiles.now c.args.w (suc c.args.m) q) here
-            (rises_under c.args.sides.now.tiles.now c.args.w (length c.args.made.now) c.args.m c.requires.inside c.args.above.now c.row-p.result.now c.allowed_upon.result c.requires.above c.row-p.ensures.long c.allowed_upon.ensures
+            (rises_under c.args.sides.now.tiles.now c.args.w (length c.args.made.now) c.args.m c.requires.inside c.args.above.now c.row-p.result.now c.allow_upon.new.allowed c.requires.above c.row-p.ensures.long c.allow_upon.ensures
             (subst (λ (q : List ℕ). IsInLayer c.args.sides.now.tiles.now c.args.w (length c.args.made.now - suc (suc c.args.m)) q) (sym here) inside)
             (c.misses.ensures.missed w.if-not-misses.false))));
       }
