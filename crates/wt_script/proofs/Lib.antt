@@ -3,3 +3,4 @@ pub mod Pieces
 pub mod Raws
 pub mod Axes
 pub mod Follow
+pub mod Colons

@@ -9,10 +9,11 @@ use Rattle.wt_pattern.specs.TileRows.{no_state, rows_list, row_part, tile_rows}
 use Rattle.wt_pattern.specs.PatternRows.{cells_form, rows_grid, pattern_rows}
 use Rattle.wt_script.specs.declared.word.Command.{Command}
 use Rattle.wt_script.specs.declared.kinds.Kind.{Kind}
-use Rattle.wt_script.specs.declared.kinds.Kind.TheVariants.{Tiles, Pattern, Valid, Period, Dominoes, Surround, Markers, Fuse, Same, Derive, Search, Cert, Check, Upgrade, Lighten, Expand, Image, Desub, Bound, Primitive, Seeds, Census, Draw, Json}
+use Rattle.wt_script.specs.declared.kinds.Kind.TheVariants.{Tiles, Pattern, Valid, Period, Dominoes, Surround, Markers, Fuse, Same, Derive, Search, Cert, Check, Upgrade, Lighten, Expand, Image, Desub, Bound, Primitive, Seeds, Census, Draw, Json, Torus, Code, Induce}
 use Rattle.wt_script.specs.Raw.{raw_from, raw_lines}
-use Rattle.wt_script.specs.Forms.{tiles_form, pattern_form, check_form}
-use Rattle.wt_script.specs.Parts.{Part, to_tiles, to_pattern, to_check, tiles_part, pattern_part, check_part, valid_part, cert_part, primitive_part, json_part, period_part, bound_part, dominoes_part, markers_part, surround_part, fuse_part, same_part, derive_part, search_part, upgrade_part, lighten_part, expand_part, image_part, desub_part, seeds_part, census_part, draw_part, kind_at, part_of}
+use Rattle.wt_script.specs.Forms.{Part, tiles_form, pattern_form, check_form}
+use Rattle.wt_script.specs.TorusText.{plane_form, plane_part, planes_part, region_form, to_region, region_part, torus_form, regions_part}
+use Rattle.wt_script.specs.Parts.{to_tiles, to_pattern, to_check, tiles_part, pattern_part, check_part, valid_part, cert_part, primitive_part, json_part, period_part, bound_part, dominoes_part, markers_part, surround_part, fuse_part, same_part, derive_part, search_part, upgrade_part, lighten_part, expand_part, image_part, desub_part, seeds_part, census_part, draw_part, to_torus, torus_part, code_part, induce_part, kind_at, part_of}
 use Rattle.wt_script.specs.Script.{is_skipped, command_at, piece_at}
 
 abbrev pub Keeps : {A : Type 0} → Part A → Type 0
@@ -104,8 +105,18 @@ raw_keeps : (k : ℕ) → Keeps (raw_lines k)
 unfolding raw_lines
 raw_keeps k p x q e = raw_keep k p.0 p.1 x q e
 
+planes_keep : (n : ℕ) → Keeps (planes_part n)
+planes_keep n = many_keeps (λ s. plane_part) no_state (λ s. less (seen_takes _ _ (one_takes plane_form))) 0 n
+
+region_takes : Takes region_part
+unfolding region_part
+region_takes = seen_takes to_region _ (by_takes (one_line region_form) (λ head. planes_part head.1) (one_takes region_form) (λ head. planes_keep head.1))
+
+regions_keep : (n : ℕ) → Keeps (regions_part n)
+regions_keep n = many_keeps (λ s. region_part) no_state (λ s. less region_takes) 0 n
+
 pub command_takes : (kind : Option Kind) → Takes (part_of kind)
-unfolding tiles_part pattern_part check_part valid_part cert_part primitive_part json_part period_part bound_part dominoes_part markers_part surround_part fuse_part same_part derive_part search_part upgrade_part lighten_part expand_part image_part desub_part seeds_part census_part draw_part
+unfolding tiles_part pattern_part check_part valid_part cert_part primitive_part json_part period_part bound_part dominoes_part markers_part surround_part fuse_part same_part derive_part search_part upgrade_part lighten_part expand_part image_part desub_part seeds_part census_part draw_part torus_part code_part induce_part
 command_takes None p x q e = absurd cc
 command_takes (Some Tiles) p x q e = seen_takes to_tiles _ (by_takes (one_line tiles_form) (λ head. tile_rows head.1) (one_takes tiles_form) (λ head. rows_keep head.1)) p x q e
 command_takes (Some Pattern) p x q e = seen_takes to_pattern _ (by_takes (one_line pattern_form) (λ head. pattern_rows head.1.1.0 head.1.1.1) (one_takes pattern_form) (λ head. grid_keeps head.1.1.0 head.1.1.1)) p x q e
@@ -131,6 +142,9 @@ command_takes (Some Seeds) p x q e = seen_takes _ _ (one_takes _) p x q e
 command_takes (Some Census) p x q e = seen_takes _ _ (one_takes _) p x q e
 command_takes (Some Draw) p x q e = seen_takes _ _ (one_takes _) p x q e
 command_takes (Some Json) p x q e = seen_takes _ _ (one_takes _) p x q e
+command_takes (Some Torus) p x q e = seen_takes to_torus _ (by_takes (one_line torus_form) (λ head. regions_part head.1.1) (one_takes torus_form) (λ head. regions_keep head.1.1)) p x q e
+command_takes (Some Code) p x q e = seen_takes _ _ (one_takes _) p x q e
+command_takes (Some Induce) p x q e = seen_takes _ _ (one_takes _) p x q e
 
 -- a piece takes a line or more
 pub piece_takes : (n : ℕ) (ls : List Line) (x : Option Command) (q : ℕ × List Line) → piece_at n ls ≡ Ok (x, q) → length q.1 < length ls

@@ -6,7 +6,7 @@ use Rattle.wt_text.specs.Spellings.{AllFit}
 use Rattle.wt_tile.specs.Sets.{set_fault}
 use Rattle.wt_script.specs.declared.limits.TheConstants.{MAX_AXES, MAX_LEVELS, MAX_MADE, MAX_POWER, MAX_TURNS}
 use Rattle.wt_script.specs.declared.word.Word.{Word}
-use Rattle.wt_script.specs.declared.word.Word.TheVariants.{Tiles, Pattern, Valid, Period, Dominoes, Surround, Markers, Fuse, Same, Derive, Search, Cert, Check, Upgrade, Lighten, Expand, Image, Desub, Bound, Primitive, Seeds, Census, Draw, Json}
+use Rattle.wt_script.specs.declared.word.Word.TheVariants.{Tiles, Pattern, Valid, Period, Dominoes, Surround, Markers, Fuse, Same, Derive, Search, Cert, Check, Upgrade, Lighten, Expand, Image, Desub, Bound, Primitive, Seeds, Census, Draw, Json, Torus, Code, Induce}
 use Rattle.wt_script.specs.declared.word.Command.{Command}
 
 -- the limits and forms of a command's words and lines that its types don't tell
@@ -35,6 +35,9 @@ Fits (Seeds chain power) = (1 ≤ power) × (power ≤ MAX_POWER)
 Fits (Census chain turns tile) = turns ≤ MAX_TURNS
 Fits (Draw pattern style) = Unit {0}
 Fits (Json value) = Unit {0}
+Fits (Torus name width height move1 move2 regions) = Unit {0}
+Fits (Code name torus x y width height) = (1 ≤ width) × (width ≤ MAX_MADE) × (1 ≤ height) × (height ≤ MAX_MADE)
+Fits (Induce name torus axis) = Unit {0}
 
 -- all commands of a script do so
 abbrev pub AllFitting : List Command → Type 0

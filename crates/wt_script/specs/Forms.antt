@@ -1,5 +1,6 @@
 -- The first lines of the commands, each by its form and its limits, from left to right.
 use Rattle.std.specs.Prelude.{ℕ, ℤ, List, Result, codes}
+use Rattle.wt_golden.specs.Fractions.{Fraction}
 use Rattle.wt_grid.specs.declared.axis.Side.{Side}
 use Rattle.wt_grid.specs.declared.axis.Axis.{Axis}
 use Rattle.wt_line.specs.declared.faults.What.{What}
@@ -9,12 +10,17 @@ use Rattle.wt_line.specs.Directions.{axis, side}
 use Rattle.wt_grid.specs.declared.limits.TheConstants.{MAX_SIDE, MAX_TILES}
 use Rattle.wt_pattern.specs.declared.drawing.Style.{Style}
 use Rattle.wt_script.specs.declared.limits.TheConstants.{MAX_LEVELS, MAX_MADE, MAX_POWER, MAX_TURNS}
-use Rattle.wt_text.specs.Readers.{LineFault, number_to, value_behind, both, whole}
-use Rattle.wt_script.specs.Tokens.{name, large, component, style, axes_word}
+use Rattle.wt_text.specs.Lines.{Line}
+use Rattle.wt_text.specs.Readers.{LineFault, TextFault, number_to, value_behind, both, whole}
+use Rattle.wt_script.specs.Tokens.{name, large, component, style, axes_word, golden}
 
 -- a line's form, or the first limit that it passes
 abbrev pub Form : Type 0 → Type 0
 Form A = List (List ℕ) → Result A (LineFault What)
+
+-- some lines from a place on, and the place behind them
+abbrev pub Part : Type 0 → Type 0
+Part A = ℕ × List Line → Result (A × (ℕ × List Line)) (TextFault What)
 
 -- tiles N n
 unfoldable pub tiles_form : Form (List ℕ × ℕ)
@@ -83,6 +89,14 @@ seeds_form = whole (value_behind (codes "seeds") (both name (number_from_one MAX
 -- census C k t
 unfoldable pub census_form : Form (List ℕ × (ℕ × ℕ))
 census_form = whole (value_behind (codes "census") (both name (both (number_to MAX_TURNS Turns) small)))
+
+-- code N T Gx Gy w h
+unfoldable pub code_form : Form (List ℕ × (List ℕ × (Fraction × (Fraction × (ℕ × ℕ)))))
+code_form = whole (value_behind (codes "code") (both name (both name (both golden (both golden (both (number_from_one MAX_MADE Width) (number_from_one MAX_MADE Height)))))))
+
+-- induce N T A
+unfoldable pub induce_form : Form (List ℕ × (List ℕ × Axis))
+induce_form = whole (value_behind (codes "induce") (both name (both name axis)))
 
 -- draw P numbers, or draw P boxes
 unfoldable pub draw_form : Form (List ℕ × Style)

@@ -1,5 +1,6 @@
 -- The commands of a script, each a first line and the lines that it says follow.
 use Rattle.std.specs.Prelude.{ℕ, ℤ, List, [], ◌∷◌, Option, None, Some, Result, Err, codes, if◌then◌else◌}
+use Rattle.wt_golden.specs.Fractions.{Fraction}
 use Rattle.wt_grid.specs.declared.axis.Side.{Side}
 use Rattle.wt_grid.specs.declared.axis.Axis.{Axis}
 use Rattle.std.specs.Str.{bytes_eq}
@@ -12,16 +13,15 @@ use Rattle.wt_text.specs.Readers.{TextFault, syntax_at, one_line, seen_as, part_
 use Rattle.wt_pattern.specs.TileRows.{tile_rows}
 use Rattle.wt_pattern.specs.PatternRows.{pattern_rows}
 use Rattle.wt_pattern.specs.declared.drawing.Style.{Style}
+use Rattle.wt_script.specs.declared.torus.RawBox.{RawBox}
+use Rattle.wt_script.specs.declared.torus.RawRegion.{RawRegion}
 use Rattle.wt_script.specs.declared.word.Word.{Word}
 use Rattle.wt_script.specs.declared.word.Word.TheVariants as word
 use Rattle.wt_script.specs.declared.kinds.Kind.{Kind}
-use Rattle.wt_script.specs.declared.kinds.Kind.TheVariants.{Tiles, Pattern, Valid, Period, Dominoes, Surround, Markers, Fuse, Same, Derive, Search, Cert, Check, Upgrade, Lighten, Expand, Image, Desub, Bound, Primitive, Seeds, Census, Draw, Json}
-use Rattle.wt_script.specs.Forms.{tiles_form, pattern_form, named_form, vector_form, windows_form, surround_form, fuse_form, names_form, derive_form, search_form, check_form, lighten_form, expand_form, image_form, desub_form, seeds_form, census_form, draw_form}
+use Rattle.wt_script.specs.declared.kinds.Kind.TheVariants.{Tiles, Pattern, Valid, Period, Dominoes, Surround, Markers, Fuse, Same, Derive, Search, Cert, Check, Upgrade, Lighten, Expand, Image, Desub, Bound, Primitive, Seeds, Census, Draw, Json, Torus, Code, Induce}
+use Rattle.wt_script.specs.Forms.{Part, tiles_form, pattern_form, named_form, vector_form, windows_form, surround_form, fuse_form, names_form, derive_form, search_form, check_form, lighten_form, expand_form, image_form, desub_form, seeds_form, census_form, draw_form, code_form, induce_form}
+use Rattle.wt_script.specs.TorusText.{torus_form, regions_part}
 use Rattle.wt_script.specs.Raw.{raw_lines}
-
--- some lines from a place on, and the place behind them
-abbrev pub Part : Type 0 → Type 0
-Part A = ℕ × List Line → Result (A × (ℕ × List Line)) (TextFault What)
 
 -- ---- commands with lines of their own
 
@@ -48,6 +48,14 @@ to_check x = word.Check x.0.0 x.1
 -- check N n, and n lines, whatever they hold
 unfoldable pub check_part : Part Word
 check_part = seen_as to_check (part_by (one_line check_form) (λ head. raw_lines head.1))
+
+-- what its lines tell, as the command torus
+abbrev pub to_torus : (List ℕ × (RawBox × ℕ)) × List RawRegion → Word
+to_torus x = word.Torus x.0.0 x.0.1.0.width x.0.1.0.height x.0.1.0.move1 x.0.1.0.move2 x.1
+
+-- torus N GA GB Ga Gb n, and n regions
+unfoldable pub torus_part : Part Word
+torus_part = seen_as to_torus (part_by (one_line torus_form) (λ head. regions_part head.1.1))
 
 -- ---- commands of one line
 
@@ -203,6 +211,22 @@ to_draw x = word.Draw x.0 x.1
 unfoldable pub draw_part : Part Word
 draw_part = seen_as to_draw (one_line draw_form)
 
+-- what its lines tell, as the command code
+abbrev pub to_code : List ℕ × (List ℕ × (Fraction × (Fraction × (ℕ × ℕ)))) → Word
+to_code x = word.Code x.0 x.1.0 x.1.1.0 x.1.1.1.0 x.1.1.1.1.0 x.1.1.1.1.1
+
+-- code N T Gx Gy w h
+unfoldable pub code_part : Part Word
+code_part = seen_as to_code (one_line code_form)
+
+-- what its lines tell, as the command induce
+abbrev pub to_induce : List ℕ × (List ℕ × Axis) → Word
+to_induce x = word.Induce x.0 x.1.0 x.1.1
+
+-- induce N T A
+unfoldable pub induce_part : Part Word
+induce_part = seen_as to_induce (one_line induce_form)
+
 -- ---- any command, by the first word of its first line
 
 -- the kind of the command that this word begins
@@ -232,6 +256,9 @@ kind_of w =
     else if bytes_eq w (codes "census") then Some Census
     else if bytes_eq w (codes "draw") then Some Draw
     else if bytes_eq w (codes "json") then Some Json
+    else if bytes_eq w (codes "torus") then Some Torus
+    else if bytes_eq w (codes "code") then Some Code
+    else if bytes_eq w (codes "induce") then Some Induce
     else None
 
 -- the kind of the command of these tokens, by the first one
@@ -271,3 +298,6 @@ part_of (Some Seeds) p = seeds_part p
 part_of (Some Census) p = census_part p
 part_of (Some Draw) p = draw_part p
 part_of (Some Json) p = json_part p
+part_of (Some Torus) p = torus_part p
+part_of (Some Code) p = code_part p
+part_of (Some Induce) p = induce_part p

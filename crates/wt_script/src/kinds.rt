@@ -33,6 +33,9 @@ pub enum Kind {
     Census,
     Draw,
     Json,
+    Torus,
+    Code,
+    Induce,
 }
 
 fn kind_of(token: &[u8]) -> Option<Kind>
@@ -86,6 +89,12 @@ fn kind_of(token: &[u8]) -> Option<Kind>
         Some(Kind::Draw)
     } else if token == b"json".as_slice() {
         Some(Kind::Json)
+    } else if token == b"torus".as_slice() {
+        Some(Kind::Torus)
+    } else if token == b"code".as_slice() {
+        Some(Kind::Code)
+    } else if token == b"induce".as_slice() {
+        Some(Kind::Induce)
     } else {
         None
     }

@@ -4,10 +4,12 @@
 
 mod chains;
 mod counts;
+mod goldens;
 mod kinds;
 mod laws;
 mod limits;
 mod own;
+mod partitions;
 mod patterns;
 mod raw;
 mod rows;
@@ -17,10 +19,12 @@ mod steps;
 #[cfg(test)]
 mod tests;
 mod token;
+mod torus;
 mod windows;
 mod word;
 
 pub use laws::pieces_follow;
 pub use script::parse_script;
+pub use torus::{RawBox, RawRegion, RawTorus, torus_at};
 pub use word::{Command, Word};
 pub use wt_pattern::Style;

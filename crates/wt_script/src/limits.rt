@@ -17,3 +17,12 @@ pub const MAX_POWER: u32 = 64;
 
 /// The greatest number of turns of a census.
 pub const MAX_TURNS: u32 = 4096;
+
+/// The numbers of a half-plane are below this in absolute value: 2^18.
+pub const PLANE_LIMIT: u32 = 262_144;
+
+/// The greatest label of a region.
+pub const MAX_LABEL: u32 = 255;
+
+/// The numbers of a golden token are below this in absolute value: 2^30.
+pub const GOLDEN_LIMIT: u32 = 1_073_741_824;

@@ -13,6 +13,7 @@ use crate::chains::{bound_at, cert_at, expand_at, image_at, lighten_at, upgrade_
 use crate::counts::{census_at, primitive_at, seeds_at};
 use crate::kinds::{Kind, kind_on};
 use crate::own::{check_at, pattern_at, set_at};
+use crate::partitions::{code_at, induce_at, partition_at};
 use crate::patterns::{draw_at, json_at, period_at, valid_at};
 use crate::sets::{fuse_at, same_at};
 use crate::steps::{derive_at, desub_at, search_at};
@@ -51,6 +52,9 @@ fn word_at(alloc: Global, kind: Kind, place: Place<'_>) -> Result<(Word, Place<'
         Kind::Census => census_at(alloc, place),
         Kind::Draw => draw_at(alloc, place),
         Kind::Json => json_at(alloc, place),
+        Kind::Torus => partition_at(alloc, place),
+        Kind::Code => code_at(alloc, place),
+        Kind::Induce => induce_at(alloc, place),
     }
 }
 

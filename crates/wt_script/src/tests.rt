@@ -25,9 +25,11 @@ fn reads_each_word(rt: HostRuntime) {
     let text = b"tiles s 0\npattern p s 1 1\n0\nvalid p\nperiod p -9223372036854775807 0\n\
 dominoes s 1 4 18446744073709551615\nsurround s 2 65535 0 0 0\nmarkers s 2 1 9\nfuse s 1 0 1\nsame s t\n\
 derive c s 1 after 0 0 9\nsearch c s 12121212 before 1 32 9\ncert c\ncheck c 0\nexpand p c 1024 1\nimage c 0\n\
-desub q c 0 p\nbound c 1 0\nprimitive c\nupgrade d c\nlighten d c 18446744073709551615\nseeds c 64\ncensus c 4096 0\ndraw p boxes\njson a_name_of_thirty_two_bytes_0123\n";
+desub q c 0 p\nbound c 1 0\nprimitive c\nupgrade d c\nlighten d c 18446744073709551615\nseeds c 64\ncensus c 4096 0\ndraw p boxes\njson a_name_of_thirty_two_bytes_0123\n\
+torus t 1073741823:-1:2 1:0:1 2:-1:1 2:-1:1 2\nregion 255 1\n-262143 0 0 262143 -1 1\nregion 0 0\n\
+code k t 1:0:10 -1:0:10 1024 1\ninduce i t 2\n";
     let commands = parse_script(rt.alloc(), text);
-    assert!(rt; commands.is_ok_and(|commands| commands.len() == 24));
+    assert!(rt; commands.is_ok_and(|commands| commands.len() == 27));
 }
 
 #[test]
@@ -40,7 +42,7 @@ fn reads_no_commands(rt: HostRuntime) {
 
 #[test]
 fn names_the_first_fault(rt: HostRuntime) {
-    let rows: [(&str, usize, Option<What>); 42] = [
+    let rows: [(&str, usize, Option<What>); 60] = [
         ("# x", 1, None),
         (" \n", 1, None),
         (" # x\n", 1, None),
@@ -91,6 +93,60 @@ fn names_the_first_fault(rt: HostRuntime) {
         ("draw p lines\n", 1, None),
         ("upgrade d c 1\n", 1, None),
         ("lighten d c 18446744073709551616\n", 1, Some(What::Number)),
+        ("torus t 1:0 1:0:1 1:0:1 1:0:1 0\n", 1, None),
+        ("torus t 1:0:1:1 1:0:1 1:0:1 1:0:1 0\n", 1, None),
+        ("torus t 1:0:0 1:0:1 1:0:1 1:0:1 0\n", 1, None),
+        ("torus t -0:0:1 1:0:1 1:0:1 1:0:1 0\n", 1, None),
+        ("torus t 1:0:-1 1:0:1 1:0:1 1:0:1 0\n", 1, None),
+        ("torus t 1:0:1 1:0:1 1:0:1 1:0:1\n", 1, None),
+        (
+            "torus t 1:0:1 1:0:1073741824 1:0:1 1:0:1 1025\n",
+            1,
+            Some(What::Golden),
+        ),
+        (
+            "torus t 1:0:1 1:0:1 1:-1073741824:1 1:0:1 1025\n",
+            1,
+            Some(What::Golden),
+        ),
+        (
+            "torus t 1:0:1 1:0:1 1:0:1 1:0:1 1025\n",
+            1,
+            Some(What::Regions),
+        ),
+        (
+            "torus t 1:0:1 1:0:1 1:0:1 1:0:1 1\nregion 256 65\n",
+            2,
+            Some(What::Tiles),
+        ),
+        (
+            "torus t 1:0:1 1:0:1 1:0:1 1:0:1 1\nregion 255 65\n",
+            2,
+            Some(What::Planes),
+        ),
+        (
+            "torus t 1:0:1 1:0:1 1:0:1 1:0:1 1\nregion 0 1\n0 0 0 0 0 -262144\n",
+            3,
+            Some(What::Number),
+        ),
+        (
+            "torus t 1:0:1 1:0:1 1:0:1 1:0:1 1\nregion 0 1\n262144 0 0 0 0 -0\n",
+            3,
+            None,
+        ),
+        (
+            "torus t 1:0:1 1:0:1 1:0:1 1:0:1 2\nregion 0 0\n\nregion 0 0\n",
+            3,
+            None,
+        ),
+        ("code k t 1:0:1 1073741824:0:1 0 1\n", 1, None),
+        (
+            "code k t 1:0:1 1073741824:0:1 1025 1\n",
+            1,
+            Some(What::Golden),
+        ),
+        ("code k t 1:0:1 1:0:1 1025 1025\n", 1, Some(What::Width)),
+        ("induce i t 3\n", 1, None),
     ];
     for (text, line, what) in rows {
         let want = match what {

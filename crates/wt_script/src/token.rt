@@ -1,10 +1,12 @@
 // The tokens of a script's lines.
-ghost use Rattle.std.specs.Prelude.{◌≡◌, ◌≤◌, ◌<◌, ◌^◌, IfOk, Ok, length, unsigned_abs};
+ghost use Rattle.std.specs.Prelude.{◌≡◌, ◌≤◌, ◌<◌, ◌^◌, IfOk, SomeIff, Ok, true, length, unsigned_abs};
+ghost use Rattle.wt_line.specs.Signed.{signed_value};
+ghost use Rattle.wt_line.specs.Signed as signed;
 ghost use Rattle.wt_line.specs.Faults.{ReadsTokens};
 ghost use Rattle.wt_line.specs.Left.{tokens_left, ReadsRest};
 ghost use Rattle.wt_script.specs.Tokens as spec;
 
-use crate::limits::{MAX_AXES, MAX_NAME};
+use crate::limits::{MAX_AXES, MAX_NAME, PLANE_LIMIT};
 use std::alloc::{AllocError, Global};
 use wt_grid::Axis;
 use wt_io::NumberFault;
@@ -76,6 +78,36 @@ pub fn large(rest: Rest<'_>) -> Result<(Result<u64, What>, Rest<'_>), LineFault>
         Ok(value) => Ok((Ok(value), rest)),
         Err(NumberFault::TooLarge) => Ok((Err(What::Number), rest)),
         Err(NumberFault::NotNumber) => Err(LineFault::Wrong),
+    }
+}
+
+/// A signed number below a limit in absolute value; None where it is not below it.
+pub fn value_below(limit: u32, token: &[u8]) -> Option<i64>
+    requires { signed.is_signed token.now ≡ true }
+    ensures { SomeIff result (unsigned_abs (signed_value token.now) < limit) (signed_value token.now) }
+{
+    let value = signed_number(token)?;
+    if value.unsigned_abs() < u64::from(limit) {
+        Some(value)
+    } else {
+        None
+    }
+}
+
+/// A number of a half-plane.
+pub fn plane_number(rest: Rest<'_>) -> Result<(Result<i64, What>, Rest<'_>), LineFault>
+    ensures read { ReadsRest spec.plane_number result rest.entry }
+    ensures within { IfOk result (λ x. IfOk x.0 (λ z. unsigned_abs z < PLANE_LIMIT)) }
+{
+    let Some((token, rest)) = next_token(rest) else {
+        return Err(LineFault::Wrong);
+    };
+    if !is_signed(token) {
+        return Err(LineFault::Wrong);
+    }
+    match value_below(PLANE_LIMIT, token) {
+        Some(value) => Ok((Ok(value), rest)),
+        None => Ok((Err(What::Number), rest)),
     }
 }
 

@@ -1,4 +1,6 @@
 // The commands of a script.
+use crate::torus::RawRegion;
+use wt_golden::Golden;
 use wt_grid::{Axis, Side};
 use wt_pattern::{Pattern, Style};
 use wt_seq::Seq;
@@ -225,6 +227,45 @@ pub enum Word {
     Json {
         /// The name of the value.
         value: Seq<u8>,
+    },
+    /// `torus N GA GB Ga Gb n`, and n regions: a partition.
+    Torus {
+        /// The name that is bound.
+        name: Seq<u8>,
+        /// The side of the box along axis 1.
+        width: Golden,
+        /// The side along axis 2.
+        height: Golden,
+        /// The move along axis 1. It may be no move of the box.
+        move1: Golden,
+        /// The move along axis 2.
+        move2: Golden,
+        /// The regions, at most 1024. Their half-planes may be none.
+        regions: Seq<RawRegion>,
+    },
+    /// `code N T Gx Gy w h`: the code of a point.
+    Code {
+        /// The name that is bound.
+        name: Seq<u8>,
+        /// The partition.
+        torus: Seq<u8>,
+        /// The coordinate of the point along axis 1.
+        x: Golden,
+        /// The coordinate along axis 2.
+        y: Golden,
+        /// The width, in letters: 1 to 1024.
+        width: usize,
+        /// The height, in letters: 1 to 1024.
+        height: usize,
+    },
+    /// `induce N T A`: the partition that is induced along an axis.
+    Induce {
+        /// The name that is bound.
+        name: Seq<u8>,
+        /// The partition.
+        torus: Seq<u8>,
+        /// The axis.
+        axis: Axis,
     },
 }
 
