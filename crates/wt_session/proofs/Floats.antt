@@ -1,5 +1,5 @@
 -- No value has a float.
-use Rattle.std.proofs.Common.{◌≡◌, ℕ, zero, suc, ◌+◌, false, List, [], ◌∷◌, map, refl, ◌||◌}
+use Rattle.std.proofs.Common.{◌≡◌, ℕ, zero, suc, ◌+◌, false, List, [], ◌∷◌, map, refl, ◌||◌, ℤ, pos, negsuc}
 use Rattle.wt_grid.specs.declared.image.Image.TheVariants.{One as Single, Two as Double}
 use Rattle.wt_grid.specs.declared.image.Image.{Image}
 use Rattle.wt_grid.specs.declared.axis.Side.TheVariants.{After, Before}
@@ -15,7 +15,10 @@ use Rattle.wt_step.specs.declared.raw.RawLink.TheVariants.{Marker, Restrict}
 use Rattle.wt_chain.specs.declared.raw.RawChain.{RawChain}
 use Rattle.wt_chain.specs.declared.raw.End.{End}
 use Rattle.wt_chain.specs.declared.raw.End.TheVariants.{Open, Loop}
-use Rattle.wt_session.specs.Json.{whole, numbers, tile_json, set_json, image_json, side_json, step_json, end_json, sizes, chain_json}
+use Rattle.wt_plane.specs.HalfPlanes.{Half, numbers_of}
+use Rattle.wt_torus.specs.declared.partition.Labelled.{Labelled}
+use Rattle.wt_torus.specs.declared.partition.Partition.{Partition}
+use Rattle.wt_session.specs.Json.{signed, plane_json, region_json, partition_json, whole, numbers, tile_json, set_json, image_json, side_json, step_json, end_json, sizes, chain_json}
 
 module _ {A : Type 0} (f : A → Data) (plain : (x : A) → has_float (f x) ≡ false) where
   pub none_in : (xs : List A) → items_have_float (items_of (map f xs)) ≡ false
@@ -52,3 +55,16 @@ plain_set set = rw (none_in (tile_json set.names1 set.names2) (λ t. refl) set.t
 
 pub plain_chain : (c : RawChain) → has_float (chain_json c) ≡ false
 plain_chain c = rw (of_end c.end, of_numbers (sizes c.steps), none_in step_json of_step c.steps) refl
+
+of_signed : (z : ℤ) → has_float (signed z) ≡ false
+of_signed (pos n) = refl
+of_signed (negsuc n) = refl
+
+of_plane : (h : Half) → has_float (plane_json h) ≡ false
+of_plane h = none_in signed of_signed (numbers_of h)
+
+of_region : (r : Labelled) → has_float (region_json r) ≡ false
+of_region r = rw (none_in plane_json of_plane r.region.planes) refl
+
+pub plain_partition : (p : Partition) → has_float (partition_json p) ≡ false
+plain_partition p = rw (none_in region_json of_region p.regions) refl

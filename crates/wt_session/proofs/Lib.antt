@@ -1,6 +1,8 @@
 pub mod Maps
 pub mod Listed
 pub mod Copies
+pub mod Made
+pub mod HalfTests
 pub mod Floats
 pub mod Jsons
 pub mod Ascii
@@ -17,6 +19,7 @@ pub mod Counted
 pub mod Lightened
 pub mod Fitting
 pub mod Heavy
+pub mod NoMemory
 pub mod One
 pub mod Decided
 pub mod Powers

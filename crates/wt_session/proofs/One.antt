@@ -62,11 +62,22 @@ use Rattle.wt_script.specs.declared.word.Word.{Word}
 use Rattle.wt_script.specs.declared.word.Word.TheVariants as word
 use Rattle.wt_session.specs.declared.words.derive.Wanted.{Wanted}
 use Rattle.wt_session.specs.declared.value.Value.{Value}
-use Rattle.wt_session.specs.declared.value.Value.TheVariants.{Set, Pattern, Chain}
+use Rattle.wt_session.specs.declared.value.Value.TheVariants.{Set, Pattern, Chain, Partition}
 use Rattle.wt_session.specs.Sheets.{Laid}
+use Rattle.wt_golden.specs.Fractions.{Fraction}
+use Rattle.wt_induce.specs.declared.fault.InduceFault.{InduceFault}
+use Rattle.wt_induce.specs.declared.fault.InduceFault.TheVariants as induce_faults
+use Rattle.wt_induce.specs.Faults.{induce_fault}
+use Rattle.wt_plane.specs.HalfPlanes.{Spot, spot, reduced_spot}
+use Rattle.wt_torus.specs.declared.coded.CodeFault.{CodeFault}
+use Rattle.wt_torus.specs.declared.coded.CodeFault.TheVariants as code_faults
+use Rattle.wt_torus.specs.declared.partition.Partition.{Partition as Divided}
+use Rattle.wt_torus.specs.Codes.{is_small, code_fault, code_of}
+use Rattle.wt_session.specs.Code.{is_on_box, IsCodedReply, IsPointReply, IsPlaceReply, IsCodeOf}
+use Rattle.wt_session.specs.Induce.{IsInducedReply, IsInduceOf}
 use Rattle.wt_session.specs.Names.{Names, find}
 use Rattle.wt_session.specs.Values.{IsGoodValue, HasGoodValues}
-use Rattle.wt_session.specs.Replies.{Reply, says, binds, chain_in, chain_named, pattern_named, set_named, value_named, open_chain}
+use Rattle.wt_session.specs.Replies.{Reply, says, binds, chain_in, chain_named, partition_named, pattern_named, set_named, value_named, open_chain}
 use Rattle.wt_session.specs.Tiles.{IsTilesReplyBy}
 use Rattle.wt_session.specs.Desub.{IsTakenReply, IsSetReply, IsStepReply, IsOverReply, IsDesubOf, IsDesubIn, coarse_reply}
 use Rattle.wt_session.specs.Primitive.{IsPowerReply, IsPrimitiveOf, power_text}
@@ -105,6 +116,7 @@ good_chain names n good = by (find n names) (good n)
     by (Some (Set set)) g = tt
     by (Some (Pattern p)) g = tt
     by (Some (Chain c)) g = g (Chain c) refl
+    by (Some (Partition p)) g = tt
 
 pub good_link : (c : RawChain) (k : ℕ) (link : RawLink) → chain_fault c ≡ None → slice_get c.steps k ≡ Some link → link_fault link ≡ None
 good_link c k link good e =
@@ -412,6 +424,7 @@ derive_one n f w (Err stopped) x y enough is js = is ∙ sym js
 derive_one n f w (Ok (Set set)) x y enough is js = derived_one n set [] w x y enough is js
 derive_one n f w (Ok (Pattern p)) x y enough is js = is ∙ sym js
 derive_one n f w (Ok (Chain c)) x y enough is js = behind_one n c.steps w c.end x y enough is js
+derive_one n f w (Ok (Partition p)) x y enough is js = is ∙ sym js
 
 -- ---- lighten
 
@@ -446,6 +459,41 @@ lighten_one n budget (Err stopped) x y enough is js = is ∙ sym js
 lighten_one n budget (Ok c) x y enough is js =
     met_one n c (lightened c budget) x y (reply_to_met n c budget is.0 x enough is.1 is.2) (reply_to_met n c budget js.0 y enough js.1 js.2)
 
+-- ---- code and induce
+
+coded_one : (n : List ℕ) (g : Grid) (o : Option CodeFault) (x y : Reply) → IsCodedReply n g o x → IsCodedReply n g o y → x ≡ y
+coded_one n g None x y is js = is ∙ sym js
+coded_one n g (Some code_faults.OutsideBox) x y is js = is ∙ sym js
+coded_one n g (Some code_faults.TooLarge) x y is js = is ∙ sym js
+coded_one n g (Some (code_faults.Unplaced i j)) x y is js = is ∙ sym js
+coded_one n g (Some (code_faults.Doubled i j)) x y is js = is ∙ sym js
+coded_one n g (Some code_faults.OutOfMemory) x y is js = absurd is
+
+point_one : (n : List ℕ) (p : Divided) (z : Spot) (w h : ℕ) (b : Bool) (x y : Reply) → IsPointReply n p z w h b x → IsPointReply n p z w h b y → x ≡ y
+point_one n p z w h true x y is js = coded_one n (code_of p z w h) (code_fault p z w h) x y is js
+point_one n p z w h false x y is js = is ∙ sym js
+
+place_one : (n : List ℕ) (p : Divided) (s t : Fraction) (w h : ℕ) (b : Bool) (x y : Reply) → IsPlaceReply n p s t w h b x → IsPlaceReply n p s t w h b y → x ≡ y
+place_one n p s t w h true x y is js = point_one n p (reduced_spot (spot s t)) w h (is_small (reduced_spot (spot s t))) x y is js
+place_one n p s t w h false x y is js = is ∙ sym js
+
+code_one : (n : List ℕ) (s t : Fraction) (w h : ℕ) (r : Result Divided Reply) (x y : Reply) → IsCodeOf n s t w h r x → IsCodeOf n s t w h r y → x ≡ y
+code_one n s t w h (Err stopped) x y is js = is ∙ sym js
+code_one n s t w h (Ok p) x y is js = place_one n p s t w h (is_on_box p.torus s t) x y is js
+
+induced_one : (n : List ℕ) (axis : Axis) (p : Divided) (o : Option InduceFault) (x y : Reply) → IsInducedReply n axis p o x → IsInducedReply n axis p o y → x ≡ y
+induced_one n axis p None x y is js = is ∙ sym js
+induced_one n axis p (Some induce_faults.Half) x y is js = is ∙ sym js
+induced_one n axis p (Some induce_faults.TooLarge) x y is js = is ∙ sym js
+induced_one n axis p (Some induce_faults.TooManyPlanes) x y is js = is ∙ sym js
+induced_one n axis p (Some induce_faults.TooManyRegions) x y is js = is ∙ sym js
+induced_one n axis p (Some induce_faults.TooManyLabels) x y is js = is ∙ sym js
+induced_one n axis p (Some induce_faults.OutOfMemory) x y is js = absurd is
+
+induce_one : (n : List ℕ) (axis : Axis) (r : Result Divided Reply) (x y : Reply) → IsInduceOf n axis r x → IsInduceOf n axis r y → x ≡ y
+induce_one n axis (Err stopped) x y is js = is ∙ sym js
+induce_one n axis (Ok p) x y is js = induced_one n axis p (induce_fault axis p) x y is js
+
 -- ---- any word
 
 pub one : (names : Names) (w : Word) (x y : Reply) → HasGoodValues names → IsEnoughFor names w → IsReply names w x → IsReply names w y → x ≡ y
@@ -473,3 +521,6 @@ one names (word.Derive n f axis side r j b) x y good enough is js = derive_one n
 one names (word.Primitive c) x y good enough is js = primitive_one (chain_named names c) x y is js
 one names (word.Seeds c q) x y good enough is js = is ∙ sym js
 one names (word.Census c k t) x y good enough is js = census_one k t (chain_named names c) x y is js
+one names (word.Torus n width height move1 move2 regions) x y good enough is js = is ∙ sym js
+one names (word.Code n t s u w h) x y good enough is js = code_one n s u w h (partition_named names t) x y is js
+one names (word.Induce n t axis) x y good enough is js = induce_one n axis (partition_named names t) x y is js

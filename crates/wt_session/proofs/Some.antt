@@ -55,11 +55,22 @@ use Rattle.wt_script.specs.declared.word.Word.TheVariants as word
 use Rattle.wt_script.specs.Fits.{Fits}
 use Rattle.wt_session.specs.declared.words.derive.Wanted.{Wanted}
 use Rattle.wt_session.specs.declared.value.Value.{Value}
-use Rattle.wt_session.specs.declared.value.Value.TheVariants.{Set, Pattern, Chain}
+use Rattle.wt_session.specs.declared.value.Value.TheVariants.{Set, Pattern, Chain, Partition}
 use Rattle.wt_session.specs.Sheets.{Laid, AreTiles}
+use Rattle.wt_golden.specs.Fractions.{Fraction}
+use Rattle.wt_induce.specs.declared.fault.InduceFault.{InduceFault}
+use Rattle.wt_induce.specs.declared.fault.InduceFault.TheVariants as induce_faults
+use Rattle.wt_induce.specs.Faults.{induce_fault}
+use Rattle.wt_plane.specs.HalfPlanes.{Spot, spot, reduced_spot}
+use Rattle.wt_torus.specs.declared.coded.CodeFault.{CodeFault}
+use Rattle.wt_torus.specs.declared.coded.CodeFault.TheVariants as code_faults
+use Rattle.wt_torus.specs.declared.partition.Partition.{Partition as Divided}
+use Rattle.wt_torus.specs.Codes.{is_small, code_fault, code_of}
+use Rattle.wt_session.specs.Code.{is_on_box, IsCodedReply, IsPointReply, IsPlaceReply, IsCodeOf}
+use Rattle.wt_session.specs.Induce.{IsInducedReply, IsInduceOf}
 use Rattle.wt_session.specs.Names.{Names, find}
 use Rattle.wt_session.specs.Values.{IsGoodValue, HasGoodValues}
-use Rattle.wt_session.specs.Replies.{Reply, binds, limit, spent, pattern_in, set_in, value_in, chain_named, pattern_named, set_named, value_named}
+use Rattle.wt_session.specs.Replies.{Reply, binds, limit, spent, pattern_in, set_in, value_in, chain_named, partition_named, pattern_named, set_named, value_named}
 use Rattle.wt_session.specs.Tiles.{IsTilesReplyBy}
 use Rattle.wt_session.specs.Desub.{IsTakenReply, IsSetReply, IsStepReply, IsOverReply, IsDesubOf, IsDesubIn, coarse_reply}
 use Rattle.wt_session.specs.Tables.{spent_text}
@@ -74,6 +85,7 @@ use Rattle.wt_session.specs.Lighten.{IsLightenOf, nodes_text, radius_spent_text,
 use Rattle.wt_session.specs.Meaning.{IsReply}
 use Rattle.wt_session.proofs.Desub.{same_tiles}
 use Rattle.wt_session.proofs.Heavy.{NeedsNone, lightened_needs_none}
+use Rattle.wt_session.proofs.NoMemory.{Never, code_never, induce_never}
 use Rattle.wt_session.proofs.One.{good_chain, good_link, margin, taken_apart}
 use Rattle.wt_session.proofs.Powers.{primitive_some, census_reply}
 use Rattle.wt_session.proofs.Tabled.{first_match, spent_first, asked_some, asked_both, window_some}
@@ -91,6 +103,7 @@ good_set names n good = by (find n names) (good n)
     by (Some (Set set)) g = (few_tiles set (g (Set set) refl)).1
     by (Some (Pattern p)) g = tt
     by (Some (Chain c)) g = tt
+    by (Some (Partition p)) g = tt
 
 good_pattern : (names : Names) (n : List ℕ) → HasGoodValues names → IfOk (pattern_named names n) (λ laid. IsGrid laid.pattern × AreTiles laid.over laid.pattern)
 good_pattern names n good = by (find n names) (good n)
@@ -100,6 +113,7 @@ good_pattern names n good = by (find n names) (good n)
     by (Some (Set set)) g = tt
     by (Some (Pattern p)) g = g (Pattern p) refl
     by (Some (Chain c)) g = tt
+    by (Some (Partition p)) g = tt
 
 good_value : (names : Names) (n : List ℕ) → HasGoodValues names → IfOk (value_named names n) IsGoodValue
 good_value names n good = by (find n names) (good n)
@@ -288,6 +302,7 @@ derive_some : (n f : List ℕ) (w : Wanted) (r : Result Value Reply) → IfOk r 
 derive_some n f w (Err stopped) good = some _
 derive_some n f w (Ok (Set set)) good = derived_some n set [] w (few_tiles set good).1
 derive_some n f w (Ok (Pattern p)) good = some _
+derive_some n f w (Ok (Partition p)) good = some _
 derive_some n f w (Ok (Chain c)) good = chain_some n c.steps w c.end (few_last no_set c.steps (omega arith) (λ k link e. good_link c k link good e))
 
 -- ---- search
@@ -390,6 +405,41 @@ lighten_some : (n : List ℕ) (budget : ℕ) (r : Result RawChain Reply) → (re
 lighten_some n budget (Err stopped) = some _
 lighten_some n budget (Ok c) = met_some n c budget (lightened c budget) refl (lightened_needs_none c budget)
 
+-- ---- code and induce
+
+coded_some : (n : List ℕ) (g : Grid) (o : Option CodeFault) → Never code_faults.OutOfMemory o → (reply : Reply) × IsCodedReply n g o reply
+coded_some n g None never = some _
+coded_some n g (Some code_faults.OutsideBox) never = some _
+coded_some n g (Some code_faults.TooLarge) never = some _
+coded_some n g (Some (code_faults.Unplaced i j)) never = some _
+coded_some n g (Some (code_faults.Doubled i j)) never = some _
+coded_some n g (Some code_faults.OutOfMemory) never = absurd (never refl)
+
+point_some : (n : List ℕ) (p : Divided) (z : Spot) (w h : ℕ) (b : Bool) → (reply : Reply) × IsPointReply n p z w h b reply
+point_some n p z w h true = coded_some n (code_of p z w h) (code_fault p z w h) (code_never p z w h)
+point_some n p z w h false = some _
+
+place_some : (n : List ℕ) (p : Divided) (s t : Fraction) (w h : ℕ) (b : Bool) → (reply : Reply) × IsPlaceReply n p s t w h b reply
+place_some n p s t w h true = point_some n p (reduced_spot (spot s t)) w h (is_small (reduced_spot (spot s t)))
+place_some n p s t w h false = some _
+
+code_some : (n : List ℕ) (s t : Fraction) (w h : ℕ) (r : Result Divided Reply) → (reply : Reply) × IsCodeOf n s t w h r reply
+code_some n s t w h (Err stopped) = some _
+code_some n s t w h (Ok p) = place_some n p s t w h (is_on_box p.torus s t)
+
+induced_some : (n : List ℕ) (axis : Axis) (p : Divided) (o : Option InduceFault) → Never induce_faults.OutOfMemory o → (reply : Reply) × IsInducedReply n axis p o reply
+induced_some n axis p None never = some _
+induced_some n axis p (Some induce_faults.Half) never = some _
+induced_some n axis p (Some induce_faults.TooLarge) never = some _
+induced_some n axis p (Some induce_faults.TooManyPlanes) never = some _
+induced_some n axis p (Some induce_faults.TooManyRegions) never = some _
+induced_some n axis p (Some induce_faults.TooManyLabels) never = some _
+induced_some n axis p (Some induce_faults.OutOfMemory) never = absurd (never refl)
+
+induce_some : (n : List ℕ) (axis : Axis) (r : Result Divided Reply) → (reply : Reply) × IsInduceOf n axis r reply
+induce_some n axis (Err stopped) = some _
+induce_some n axis (Ok p) = induced_some n axis p (induce_fault axis p) (induce_never axis p)
+
 -- ---- any word
 
 pub replied : (names : Names) (w : Word) → HasGoodValues names → Fits w → (reply : Reply) × IsReply names w reply
@@ -417,3 +467,6 @@ replied names (word.Derive n f axis side r j b) good fits = derive_some n f (wan
 replied names (word.Primitive c) good fits = primitive_some (chain_named names c)
 replied names (word.Seeds c q) good fits = some _
 replied names (word.Census c k t) good fits = census_reply k t (chain_named names c)
+replied names (word.Torus n width height move1 move2 regions) good fits = some _
+replied names (word.Code n t x y w h) good fits = code_some n x y w h (partition_named names t)
+replied names (word.Induce n t axis) good fits = induce_some n axis (partition_named names t)

@@ -65,10 +65,25 @@ use Rattle.wt_script.specs.declared.word.Word.TheVariants as word
 use Rattle.wt_session.specs.declared.limits.TheConstants.{MAX_INPUT}
 use Rattle.wt_session.specs.declared.words.derive.Wanted.{Wanted}
 use Rattle.wt_session.specs.declared.value.Value.{Value}
-use Rattle.wt_session.specs.declared.value.Value.TheVariants.{Set, Pattern, Chain}
+use Rattle.wt_session.specs.declared.value.Value.TheVariants.{Set, Pattern, Chain, Partition}
 use Rattle.wt_session.specs.Sheets.{Laid}
+use Rattle.wt_golden.specs.Fractions.{Fraction}
+use Rattle.wt_induce.specs.declared.fault.InduceFault.{InduceFault}
+use Rattle.wt_induce.specs.declared.fault.InduceFault.TheVariants as induce_faults
+use Rattle.wt_induce.specs.Faults.{induce_fault}
+use Rattle.wt_plane.specs.HalfPlanes.{Spot, spot, reduced_spot}
+use Rattle.wt_torus.specs.declared.coded.CodeFault.{CodeFault}
+use Rattle.wt_torus.specs.declared.coded.CodeFault.TheVariants as code_faults
+use Rattle.wt_torus.specs.declared.partition.Partition.{Partition as Divided}
+use Rattle.wt_torus.specs.Codes.{is_small, code_fault, code_of}
+use Rattle.wt_session.specs.Code.{is_on_box, IsCodedReply, IsPointReply, IsPlaceReply, IsCodeOf}
+use Rattle.wt_session.specs.Induce.{IsInducedReply, IsInduceOf}
+use Rattle.wt_session.specs.declared.partitions.PartitionFault.{PartitionFault}
+use Rattle.wt_session.specs.declared.partitions.PartitionFault.TheVariants as partition_faults
+use Rattle.wt_session.specs.Partitions.{partition_of}
+use Rattle.wt_session.specs.Torus.{torus_by}
 use Rattle.wt_session.specs.Names.{Names, find}
-use Rattle.wt_session.specs.Replies.{Reply, says, binds, stops, limit, spent, refused, no_tile, value_in, set_in, pattern_in, chain_in, value_named, set_named, pattern_named, chain_named}
+use Rattle.wt_session.specs.Replies.{Reply, says, binds, stops, limit, spent, refused, no_tile, value_in, set_in, pattern_in, chain_in, partition_in, value_named, set_named, pattern_named, chain_named, partition_named}
 use Rattle.wt_session.specs.Tiles.{IsTilesReplyBy}
 use Rattle.wt_session.specs.Pattern.{placed, placed_over}
 use Rattle.wt_session.specs.Valid.{valid_over, valid_of}
@@ -145,6 +160,7 @@ set_low names n = by (find n names)
     by (Some (Set set)) = tt
     by (Some (Pattern p)) = one_low
     by (Some (Chain c)) = one_low
+    by (Some (Partition p)) = one_low
 
 pattern_low : (names : Names) (n : List ℕ) → LowErr (pattern_named names n)
 pattern_low names n = by (find n names)
@@ -154,6 +170,7 @@ pattern_low names n = by (find n names)
     by (Some (Set set)) = one_low
     by (Some (Pattern p)) = tt
     by (Some (Chain c)) = one_low
+    by (Some (Partition p)) = one_low
 
 chain_low : (names : Names) (n : List ℕ) → LowErr (chain_named names n)
 chain_low names n = by (find n names)
@@ -163,6 +180,17 @@ chain_low names n = by (find n names)
     by (Some (Set set)) = one_low
     by (Some (Pattern p)) = one_low
     by (Some (Chain c)) = tt
+    by (Some (Partition p)) = one_low
+
+partition_low : (names : Names) (n : List ℕ) → LowErr (partition_named names n)
+partition_low names n = by (find n names)
+  where
+    by : (o : Option Value) → LowErr (partition_in n o)
+    by None = one_low
+    by (Some (Set set)) = one_low
+    by (Some (Pattern p)) = one_low
+    by (Some (Chain c)) = one_low
+    by (Some (Partition p)) = tt
 
 -- ---- commands without a budget
 
@@ -481,6 +509,7 @@ derive_low n f w (Err stopped) x low enough e = told x stopped e low
 derive_low n f w (Ok (Set set)) x low enough e = derived_low n set [] w x enough e
 derive_low n f w (Ok (Pattern p)) x low enough e = told x _ e one_low
 derive_low n f w (Ok (Chain c)) x low enough e = behind_low n c.steps w c.end x enough e
+derive_low n f w (Ok (Partition p)) x low enough e = told x _ e one_low
 
 -- ---- upgrade and lighten
 
@@ -497,6 +526,45 @@ met_low n c (Err light_ends.OutOfMemory) x other e = absurd e
 lighten_low : (n : List ℕ) (budget : ℕ) (r : Result RawChain Reply) (x : Reply) → LowErr r → IfOk r (λ c. HasEnoughForSteps budget c.steps) → IsLightenOf n budget r x → Low x
 lighten_low n budget (Err stopped) x low enough e = told x stopped e low
 lighten_low n budget (Ok c) x low enough e = met_low n c (lightened c budget) x (lightened_other c budget enough) (reply_to_met n c budget e.0 x enough e.1 e.2)
+
+-- ---- torus, code and induce
+
+torus_low : (n : List ℕ) (r : Result Divided PartitionFault) → Low (torus_by n r)
+torus_low n (Ok p) = zero_low
+torus_low n (Err e) = one_low
+
+coded_low : (n : List ℕ) (g : Grid) (o : Option CodeFault) (x : Reply) → IsCodedReply n g o x → Low x
+coded_low n g None x e = told x _ e zero_low
+coded_low n g (Some code_faults.OutsideBox) x e = told x _ e one_low
+coded_low n g (Some code_faults.TooLarge) x e = told x _ e five_low
+coded_low n g (Some (code_faults.Unplaced i j)) x e = told x _ e one_low
+coded_low n g (Some (code_faults.Doubled i j)) x e = told x _ e one_low
+coded_low n g (Some code_faults.OutOfMemory) x e = absurd e
+
+point_low : (n : List ℕ) (p : Divided) (z : Spot) (w h : ℕ) (b : Bool) (x : Reply) → IsPointReply n p z w h b x → Low x
+point_low n p z w h true x e = coded_low n (code_of p z w h) (code_fault p z w h) x e
+point_low n p z w h false x e = told x _ e five_low
+
+place_low : (n : List ℕ) (p : Divided) (s t : Fraction) (w h : ℕ) (b : Bool) (x : Reply) → IsPlaceReply n p s t w h b x → Low x
+place_low n p s t w h true x e = point_low n p (reduced_spot (spot s t)) w h (is_small (reduced_spot (spot s t))) x e
+place_low n p s t w h false x e = told x _ e one_low
+
+code_low : (n : List ℕ) (s t : Fraction) (w h : ℕ) (r : Result Divided Reply) (x : Reply) → LowErr r → IsCodeOf n s t w h r x → Low x
+code_low n s t w h (Err stopped) x low e = told x stopped e low
+code_low n s t w h (Ok p) x low e = place_low n p s t w h (is_on_box p.torus s t) x e
+
+induced_low : (n : List ℕ) (axis : Axis) (p : Divided) (o : Option InduceFault) (x : Reply) → IsInducedReply n axis p o x → Low x
+induced_low n axis p None x e = told x _ e zero_low
+induced_low n axis p (Some induce_faults.Half) x e = told x _ e one_low
+induced_low n axis p (Some induce_faults.TooLarge) x e = told x _ e five_low
+induced_low n axis p (Some induce_faults.TooManyPlanes) x e = told x _ e five_low
+induced_low n axis p (Some induce_faults.TooManyRegions) x e = told x _ e five_low
+induced_low n axis p (Some induce_faults.TooManyLabels) x e = told x _ e five_low
+induced_low n axis p (Some induce_faults.OutOfMemory) x e = absurd e
+
+induce_low : (n : List ℕ) (axis : Axis) (r : Result Divided Reply) (x : Reply) → LowErr r → IsInduceOf n axis r x → Low x
+induce_low n axis (Err stopped) x low e = told x stopped e low
+induce_low n axis (Ok p) x low e = induced_low n axis p (induce_fault axis p) x e
 
 -- ---- any word
 
@@ -525,6 +593,9 @@ low names (word.Derive n f axis side r j b) x enough e = derive_low n f (wanted 
 low names (word.Primitive c) x enough e = primitive_low (chain_named names c) x (chain_low names c) e
 low names (word.Seeds c q) x enough e = told x _ e (seeds_low q (chain_named names c) (chain_low names c))
 low names (word.Census c k t) x enough e = census_low k t (chain_named names c) x (chain_low names c) e
+low names (word.Torus n width height move1 move2 regions) x enough e = told x _ e (torus_low n (partition_of (record { width = width; height = height; move1 = move1; move2 = move2 }) regions))
+low names (word.Code n t s u w h) x enough e = code_low n s u w h (partition_named names t) x (partition_low names t) e
+low names (word.Induce n t axis) x enough e = induce_low n axis (partition_named names t) x (partition_low names t) e
 
 pub unspent : (names : Names) (w : Word) (x : Reply) → IsEnoughFor names w → IsReply names w x → IsUnspent x
 unspent names w x enough e = low_is_unspent x (low names w x enough e)

@@ -23,7 +23,7 @@ use Rattle.wt_search.specs.Asked.{at_level}
 use Rattle.wt_chain.specs.Limits.{nodes_through}
 use Rattle.wt_session.specs.declared.words.derive.Wanted.{Wanted}
 use Rattle.wt_session.specs.declared.value.Value.{Value}
-use Rattle.wt_session.specs.declared.value.Value.TheVariants.{Set, Pattern, Chain}
+use Rattle.wt_session.specs.declared.value.Value.TheVariants.{Set, Pattern, Chain, Partition}
 use Rattle.wt_session.specs.Names.{Names}
 use Rattle.wt_session.specs.Replies.{Reply, binds, refused, limit, wrong_kind, value_named}
 use Rattle.wt_session.specs.Markers.{classes_along}
@@ -94,6 +94,7 @@ IsDeriveOf n f w (Err stopped) reply = reply ≡ stopped
 IsDeriveOf n f w (Ok (Set set)) reply = IsStepOf n set [] w reply
 IsDeriveOf n f w (Ok (Pattern p)) reply = reply ≡ wrong_kind f
 IsDeriveOf n f w (Ok (Chain c)) reply = IsBehind n c.steps w c.end reply
+IsDeriveOf n f w (Ok (Partition p)) reply = reply ≡ wrong_kind f
 
 -- the reply to `derive N F A W r j B`
 abbrev pub IsDeriveReply : Names → List ℕ → List ℕ → Axis → Side → ℕ → ℕ → ℕ → Reply → Type 0

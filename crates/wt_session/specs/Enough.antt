@@ -20,7 +20,7 @@ use Rattle.wt_search.specs.Light.{light_entries, asked_after}
 use Rattle.wt_script.specs.declared.word.Word.{Word}
 use Rattle.wt_script.specs.declared.word.Word.TheVariants as word
 use Rattle.wt_session.specs.declared.value.Value.{Value}
-use Rattle.wt_session.specs.declared.value.Value.TheVariants.{Set, Pattern, Chain}
+use Rattle.wt_session.specs.declared.value.Value.TheVariants.{Set, Pattern, Chain, Partition}
 use Rattle.wt_session.specs.Names.{Names}
 use Rattle.wt_session.specs.Replies.{Reply, spent, set_named, value_named, chain_named}
 use Rattle.wt_session.specs.Derive.{no_set}
@@ -47,6 +47,7 @@ abbrev pub HasEnoughBehind : ℕ → ℕ → Value → Type 0
 HasEnoughBehind r budget (Set set) = HasEnough set.tiles r budget
 HasEnoughBehind r budget (Pattern p) = Unit {0}
 HasEnoughBehind r budget (Chain c) = HasEnoughAtEnd c.steps r budget c.end
+HasEnoughBehind r budget (Partition p) = Unit {0}
 
 -- A pair that a step refutes, at radius r + 1: its window has no more trials than the budget, and where it is empty, its standard tree has no more nodes, with the entries of radii from 1 to r known.
 pub record HasEnoughAtRadius (s : RawStep) (budget r : ℕ) (axis : Axis) (q : ℕ × ℕ) : Type 0 where
@@ -88,6 +89,9 @@ IsEnoughFor names (word.Derive n f axis side r j b) = IfOk (value_named names f)
 IsEnoughFor names (word.Primitive c) = Unit {0}
 IsEnoughFor names (word.Seeds c q) = Unit {0}
 IsEnoughFor names (word.Census c k t) = Unit {0}
+IsEnoughFor names (word.Torus n width height move1 move2 regions) = Unit {0}
+IsEnoughFor names (word.Code n t x y w h) = Unit {0}
+IsEnoughFor names (word.Induce n t axis) = Unit {0}
 
 -- the reply isn't that a budget is spent
 abbrev pub IsUnspent : Reply → Type 0

@@ -1,15 +1,17 @@
 -- Values as JSON. Members stand in the order of their keys' bytes.
-use Rattle.std.specs.Prelude.{ℕ, Bool, true, false, zero, suc, ◌+◌, ◌*◌, List, [], ◌∷◌, ◌++◌, length, map, slice_range, codes, Result, Ok, Err}
+use Rattle.std.specs.Prelude.{ℕ, ℤ, Bool, true, false, zero, suc, ◌+◌, ◌*◌, List, [], ◌∷◌, ◌++◌, length, map, slice_range, codes, Result, Ok, Err}
 use Rattle.wt_grid.specs.Axes.{axis_number}
 use Rattle.wt_grid.specs.declared.image.Image.TheVariants as image
 use Rattle.wt_grid.specs.declared.image.Image.{Image}
 use Rattle.wt_grid.specs.declared.axis.Side.TheVariants.{After, Before}
 use Rattle.wt_grid.specs.declared.axis.Side.{Side}
 use Rattle.wt_grid.specs.declared.axis.Axis.{Axis}
-use Rattle.std.specs.Fmt.{decimal}
+use Rattle.std.specs.Fmt.{decimal, signed_decimal}
 use Rattle.serde_json.specs.Data.{Data, number, unsigned, string, array, object, Items, no_items, item, Members, no_members, member}
+use Rattle.serde_json.specs.Find.{of_integer}
 use Rattle.serde_json.specs.View.{items_of}
 use Rattle.serde_json.specs.Written.{compact_text, comma_if, items_text}
+use Rattle.wt_golden.specs.Fractions.{Fraction}
 use Rattle.wt_grid.specs.Grid.{Grid}
 use Rattle.wt_names.specs.Numbering.{name_at}
 use Rattle.wt_tile.specs.declared.tile.Tile.{Tile}
@@ -25,8 +27,11 @@ use Rattle.wt_chain.specs.declared.raw.RawChain.{RawChain}
 use Rattle.wt_chain.specs.declared.raw.End.{End}
 use Rattle.wt_chain.specs.declared.raw.End.TheVariants.{Open, Loop}
 use Rattle.wt_chain.specs.Sets.{first_count}
+use Rattle.wt_plane.specs.HalfPlanes.{Half, numbers_of}
+use Rattle.wt_torus.specs.declared.partition.Labelled.{Labelled}
+use Rattle.wt_torus.specs.declared.partition.Partition.{Partition as Divided}
 use Rattle.wt_session.specs.declared.value.Value.{Value}
-use Rattle.wt_session.specs.declared.value.Value.TheVariants.{Set, Pattern, Chain}
+use Rattle.wt_session.specs.declared.value.Value.TheVariants.{Set, Pattern, Chain, Partition}
 use Rattle.wt_session.specs.Names.{Names}
 use Rattle.wt_session.specs.Replies.{Reply, says, value_named}
 
@@ -132,6 +137,38 @@ chain_json c = object
     (member (codes "sets") (numbers (sizes c.steps))
     (member (codes "steps") (list (map step_json c.steps)) no_members))))
 
+-- ---- a partition
+
+-- a signed whole number
+abbrev pub signed : ℤ → Data
+signed z = number (of_integer z)
+
+-- a:b:d, as a golden number is written
+abbrev pub golden_text : Fraction → List ℕ
+golden_text f = signed_decimal f.a ++ (codes ":" ++ (signed_decimal f.b ++ (codes ":" ++ signed_decimal f.d)))
+
+-- a golden number
+abbrev pub golden_json : Fraction → Data
+golden_json f = string (golden_text f)
+
+-- the six numbers of a half-plane
+abbrev pub plane_json : Half → Data
+plane_json h = list (map signed (numbers_of h))
+
+-- a region: its label and its half-planes
+abbrev pub region_json : Labelled → Data
+region_json r = object
+    (member (codes "label") (whole r.label)
+    (member (codes "planes") (list (map plane_json r.region.planes)) no_members))
+
+-- a partition: the sides of its box, its moves, its regions
+abbrev pub partition_json : Divided → Data
+partition_json p = object
+    (member (codes "box") (list (golden_json p.torus.width ∷ golden_json p.torus.height ∷ []))
+    (member (codes "kind") (string (codes "partition"))
+    (member (codes "move") (list (golden_json p.torus.move1 ∷ golden_json p.torus.move2 ∷ []))
+    (member (codes "regions") (list (map region_json p.regions)) no_members))))
+
 -- ---- json M
 
 -- any value
@@ -139,6 +176,7 @@ abbrev pub value_json : Value → Data
 value_json (Set set) = set_json set
 value_json (Pattern laid) = pattern_json laid.pattern
 value_json (Chain c) = chain_json c
+value_json (Partition p) = partition_json p
 
 -- the value, or why there is none
 abbrev pub json_of : Result Value Reply → Reply

@@ -1,4 +1,4 @@
--- A pattern that a script made, and the set that it is over.
+pub mod Partitions
 pub mod Sheets
 -- The names of a script: a finite map, as the list of its entries in the order of their names' bytes.
 pub mod Names
@@ -63,7 +63,9 @@ pub mod Primitive
 pub mod Seeds
 -- census C k t: how often each tile stands in what k turns of the loop make of tile t.
 pub mod Census
--- The meaning of a command: what it answers, and what its name is bound to.
+pub mod Torus
+pub mod Code
+pub mod Induce
 pub mod Meaning
 -- How a command ends: what it leaves of the names and of the text.
 pub mod Ends

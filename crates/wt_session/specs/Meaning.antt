@@ -1,7 +1,7 @@
 -- The meaning of a command: what it answers, and what its name is bound to.
 use Rattle.std.specs.Prelude.{◌≡◌, ℕ, ◌+◌, List, ◌++◌, length, nat_lt, if◌then◌else◌, codes}
 use Rattle.wt_script.specs.declared.word.Word.{Word}
-use Rattle.wt_script.specs.declared.word.Word.TheVariants.{Tiles, Pattern, Valid, Period, Dominoes, Surround, Markers, Fuse, Same, Derive, Search, Cert, Check, Upgrade, Lighten, Expand, Image, Desub, Bound, Primitive, Seeds, Census, Draw, Json}
+use Rattle.wt_script.specs.declared.word.Word.TheVariants.{Tiles, Pattern, Valid, Period, Dominoes, Surround, Markers, Fuse, Same, Derive, Search, Cert, Check, Upgrade, Lighten, Expand, Image, Desub, Bound, Primitive, Seeds, Census, Draw, Json, Torus, Code, Induce}
 use Rattle.wt_session.specs.declared.limits.TheConstants.{MAX_TEXT}
 use Rattle.wt_session.specs.Names.{Names, bind, is_crowded}
 use Rattle.wt_session.specs.Tiles.{IsTilesReply}
@@ -28,6 +28,9 @@ use Rattle.wt_session.specs.Lighten.{IsLightenReply}
 use Rattle.wt_session.specs.Primitive.{IsPrimitiveReply}
 use Rattle.wt_session.specs.Seeds.{seeds_reply}
 use Rattle.wt_session.specs.Census.{IsCensusReply}
+use Rattle.wt_session.specs.Torus.{torus_reply}
+use Rattle.wt_session.specs.Code.{IsCodeReply}
+use Rattle.wt_session.specs.Induce.{IsInduceReply}
 use Rattle.wt_session.specs.Replies.{Reply, says, binds, stops}
 
 -- The reply of each word. Most are functions of the names; those that search windows, and those whose answer is named by a law, are relations.
@@ -56,6 +59,9 @@ IsReply names (Derive n f axis side r j b) reply = IsDeriveReply names n f axis 
 IsReply names (Primitive c) reply = IsPrimitiveReply names c reply
 IsReply names (Seeds c q) reply = reply ≡ seeds_reply names c q
 IsReply names (Census c k t) reply = IsCensusReply names c k t reply
+IsReply names (Torus n width height move1 move2 regions) reply = reply ≡ torus_reply n (record { width = width; height = height; move1 = move1; move2 = move2 }) regions
+IsReply names (Code n t x y w h) reply = IsCodeReply names n t x y w h reply
+IsReply names (Induce n t axis) reply = IsInduceReply names n t axis reply
 
 -- ---- the limits that come after all refusals of a command: the names, and then the text
 

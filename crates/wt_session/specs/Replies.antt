@@ -3,6 +3,7 @@ use Rattle.std.specs.Prelude.{ℕ, List, ◌++◌, codes, Option, None, Some, Re
 use Rattle.std.specs.Fmt.{decimal}
 use Rattle.wt_tile.specs.declared.tile.TileList.{TileList}
 use Rattle.wt_chain.specs.declared.raw.RawChain.{RawChain}
+use Rattle.wt_torus.specs.declared.partition.Partition.{Partition}
 use Rattle.wt_session.specs.declared.value.Value.{Value}
 use Rattle.wt_session.specs.declared.value.Value.TheVariants as value
 use Rattle.wt_session.specs.Sheets.{Laid}
@@ -59,6 +60,7 @@ set_in n None = Err (unknown n)
 set_in n (Some (value.Set set)) = Ok set
 set_in n (Some (value.Pattern p)) = Err (wrong_kind n)
 set_in n (Some (value.Chain c)) = Err (wrong_kind n)
+set_in n (Some (value.Partition p)) = Err (wrong_kind n)
 
 -- a pattern
 abbrev pub pattern_in : List ℕ → Option Value → Result Laid Reply
@@ -66,6 +68,7 @@ pattern_in n None = Err (unknown n)
 pattern_in n (Some (value.Set set)) = Err (wrong_kind n)
 pattern_in n (Some (value.Pattern p)) = Ok p
 pattern_in n (Some (value.Chain c)) = Err (wrong_kind n)
+pattern_in n (Some (value.Partition p)) = Err (wrong_kind n)
 
 -- a chain
 abbrev pub chain_in : List ℕ → Option Value → Result RawChain Reply
@@ -73,6 +76,15 @@ chain_in n None = Err (unknown n)
 chain_in n (Some (value.Set set)) = Err (wrong_kind n)
 chain_in n (Some (value.Pattern p)) = Err (wrong_kind n)
 chain_in n (Some (value.Chain c)) = Ok c
+chain_in n (Some (value.Partition p)) = Err (wrong_kind n)
+
+-- a partition
+abbrev pub partition_in : List ℕ → Option Value → Result Partition Reply
+partition_in n None = Err (unknown n)
+partition_in n (Some (value.Set set)) = Err (wrong_kind n)
+partition_in n (Some (value.Pattern p)) = Err (wrong_kind n)
+partition_in n (Some (value.Chain c)) = Err (wrong_kind n)
+partition_in n (Some (value.Partition p)) = Ok p
 
 -- the value of a name
 abbrev pub value_named : Names → List ℕ → Result Value Reply
@@ -89,3 +101,7 @@ pattern_named names n = pattern_in n (find n names)
 -- the chain of a name
 abbrev pub chain_named : Names → List ℕ → Result RawChain Reply
 chain_named names n = chain_in n (find n names)
+
+-- the partition of a name
+abbrev pub partition_named : Names → List ℕ → Result Partition Reply
+partition_named names n = partition_in n (find n names)

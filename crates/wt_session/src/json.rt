@@ -5,6 +5,7 @@ ghost use Rattle.serde_json.specs.Written.{compact_text};
 ghost use Rattle.wt_session.specs.Json as spec;
 
 use crate::json_chains::chain_json;
+use crate::json_partitions::partition_json;
 use crate::json_patterns::pattern_bytes;
 use crate::json_sets::set_json;
 use crate::value::Value as Bound;
@@ -24,7 +25,7 @@ pub fn numbers(alloc: Global, list: &[u16]) -> Result<Value, AllocError>
 }
 
 /// Any value as JSON.
-#[tactic(auto, using(crate::proofs::Floats::plain_set, crate::proofs::Floats::plain_chain, crate::proofs::Jsons::written_pattern))]
+#[tactic(auto, using(crate::proofs::Floats::plain_set, crate::proofs::Floats::plain_chain, crate::proofs::Floats::plain_partition, crate::proofs::Jsons::written_pattern))]
 pub fn value_bytes(alloc: Global, value: &Bound) -> Result<Vec<u8>, AllocError>
     ensures { IfOk result (λ text. text.items ≡ compact_text (spec.value_json value.now)) }
 {
@@ -34,6 +35,10 @@ pub fn value_bytes(alloc: Global, value: &Bound) -> Result<Vec<u8>, AllocError>
             Ok(text.into_bytes())
         }
         Bound::Pattern(sheet) => pattern_bytes(alloc, sheet.pattern()),
+        Bound::Partition(partition) => {
+            let text = partition_json(alloc, partition)?.to_string(alloc)?;
+            Ok(text.into_bytes())
+        }
         Bound::Chain(chain) => {
             let text = chain_json(alloc, chain.raw())?.to_string(alloc)?;
             Ok(text.into_bytes())

@@ -1,9 +1,10 @@
-//! Scripts: a session binds names to tile sets, patterns and chains, and answers the commands of a script one after the other.
+//! Scripts: a session binds names to tile sets, patterns, chains and partitions, and answers the commands of a script one after the other.
 #![tactic(auto)]
 
 mod colours;
 mod json;
 mod json_chains;
+mod json_partitions;
 mod json_patterns;
 mod json_sets;
 mod laws;
@@ -12,6 +13,7 @@ mod limits;
 mod lookup;
 mod names;
 mod nodes;
+mod partitions;
 mod reply;
 mod rows;
 mod script;
@@ -24,6 +26,7 @@ mod words;
 
 pub use laws::{bound_names_are_found, enough_budgets, replies_are_one, replies_exist};
 pub use levels::end_fault;
+pub use partitions::{PartitionFault, partition};
 pub use reply::CommandFault;
 pub use script::run_all;
 pub use session::Session;

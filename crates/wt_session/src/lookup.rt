@@ -10,6 +10,7 @@ use std::alloc::Global;
 use wt_chain::Accepted;
 use wt_seq::Seq;
 use wt_tile::SetRef;
+use wt_torus::Partition;
 
 fn refused_name(alloc: Global, word: &[u8], name: &[u8]) -> CommandFault
     ensures { IsRefusal 1 (word.now ++ (name.now ++ codes "\n")) result }
@@ -65,7 +66,9 @@ pub fn set_named<'a>(
 {
     match names.get(name) {
         Some(Value::Set(set)) => Ok(set.view()),
-        Some(Value::Pattern(_) | Value::Chain(_)) => Err(wrong_kind(alloc, name)),
+        Some(Value::Pattern(_) | Value::Chain(_) | Value::Partition(_)) => Err(wrong_kind(
+            alloc, name,
+        )),
         None => Err(unknown(alloc, name)),
     }
 }
@@ -80,7 +83,7 @@ pub fn pattern_named<'a>(
 {
     match names.get(name) {
         Some(Value::Pattern(sheet)) => Ok(sheet),
-        Some(Value::Set(_) | Value::Chain(_)) => Err(wrong_kind(alloc, name)),
+        Some(Value::Set(_) | Value::Chain(_) | Value::Partition(_)) => Err(wrong_kind(alloc, name)),
         None => Err(unknown(alloc, name)),
     }
 }
@@ -95,7 +98,24 @@ pub fn chain_named<'a>(
 {
     match names.get(name) {
         Some(Value::Chain(chain)) => Ok(chain),
-        Some(Value::Set(_) | Value::Pattern(_)) => Err(wrong_kind(alloc, name)),
+        Some(Value::Set(_) | Value::Pattern(_) | Value::Partition(_)) => Err(wrong_kind(
+            alloc, name,
+        )),
+        None => Err(unknown(alloc, name)),
+    }
+}
+
+/// The partition of a name.
+pub fn partition_named<'a>(
+    alloc: Global,
+    names: &'a Names,
+    name: &[u8],
+) -> Result<&'a Partition, CommandFault>
+    ensures { Finds (λ p. p.now) result (spec.partition_named names.now name.now) }
+{
+    match names.get(name) {
+        Some(Value::Partition(partition)) => Ok(partition),
+        Some(Value::Set(_) | Value::Pattern(_) | Value::Chain(_)) => Err(wrong_kind(alloc, name)),
         None => Err(unknown(alloc, name)),
     }
 }

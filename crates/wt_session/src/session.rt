@@ -15,6 +15,7 @@ use crate::words::bound::bound;
 use crate::words::census::census;
 use crate::words::cert::cert;
 use crate::words::check::check;
+use crate::words::code::code;
 use crate::words::derive::derive;
 use crate::words::desub::desub;
 use crate::words::dominoes::dominoes;
@@ -22,6 +23,7 @@ use crate::words::draw::draw;
 use crate::words::expand::expand;
 use crate::words::fuse::fuse;
 use crate::words::image::image;
+use crate::words::induce::induce;
 use crate::words::json::json;
 use crate::words::lighten::lighten;
 use crate::words::markers::markers;
@@ -33,11 +35,12 @@ use crate::words::search::search;
 use crate::words::seeds::seeds;
 use crate::words::surround::surround;
 use crate::words::tiles::tiles;
+use crate::words::torus::torus;
 use crate::words::upgrade::upgrade;
 use crate::words::valid::valid;
 use std::alloc::{AllocError, Global};
 use std::marker::Model;
-use wt_script::{Command, Word};
+use wt_script::{Command, RawBox, Word};
 use wt_seq::Seq;
 
 /// What the names of a script are bound to so far. Seen by contracts as the finite map of the names.
@@ -197,6 +200,46 @@ impl Session {
                 chain.as_slice(),
                 *turns,
                 *tile,
+            ),
+            Word::Torus {
+                name,
+                width,
+                height,
+                move1,
+                move2,
+                regions,
+            } => {
+                let sides = RawBox {
+                    width: *width,
+                    height: *height,
+                    move1: *move1,
+                    move2: *move2,
+                };
+                torus(alloc, name, &sides, regions.as_slice())
+            }
+            Word::Code {
+                name,
+                torus,
+                x,
+                y,
+                width,
+                height,
+            } => code(
+                alloc,
+                names,
+                name,
+                torus.as_slice(),
+                *x,
+                *y,
+                *width,
+                *height,
+            ),
+            Word::Induce { name, torus, axis } => induce(
+                alloc,
+                names,
+                name,
+                torus.as_slice(),
+                *axis,
             ),
         }
     }

@@ -169,6 +169,72 @@ const UNDERIVED: [Row; 8] = [
     ),
 ];
 
+/// Binds five names: the four quarters t, a partition h whose move is half the length, a partition o with two regions
+/// one upon the other, the code c, and the set s.
+const PARTITIONS: [&str; 5] = [
+    "torus t 1:0:1 1:0:1 2:-1:1 2:-1:1 4\nregion 0 2\n-1 0 0 0 -1 1\n0 0 -1 0 -1 1\nregion 1 2\n1 0 0 0 1 -1\n0 0 -1 0 -1 1\nregion 2 2\n-1 0 0 0 -1 1\n0 0 1 0 1 -1\nregion 3 2\n1 0 0 0 1 -1\n0 0 1 0 1 -1\n",
+    "torus h 1:0:1 262145:0:1 1:0:2 1:0:1 0\n",
+    "torus o 1:0:1 1:0:1 2:-1:1 2:-1:1 2\nregion 0 0\nregion 1 1\n1 0 0 0 1 -1\n",
+    "code c t 2:-1:1 1:0:10 21 1\n",
+    "tiles s 1\nx n x n\n",
+];
+
+/// What these commands print. The code is the Fibonacci word, made by 0 to 01 and 1 to 0.
+const DIVIDED: &str =
+    "torus 4 regions 4 labels\ntorus 0 regions 0 labels\ntorus 2 regions 2 labels\n0 1 0 0 1 0 1 0 0 1 0 0 1 0 1 0 0 1 0 1 0\ntiles 1 colours 1 1\n";
+
+/// What is bound to these names, as JSON.
+const DIVIDED_TOLD: [&str; 5] = ["json t\n", "json h\n", "json o\n", "json c\n", "json s\n"];
+
+/// Commands that are refused with these five names.
+const UNDIVIDED: [Row; 21] = [
+    (
+        "torus n 1:0:1 1:0:1 1:0:1 2:-1:1 1\nregion 0 1\n0 0 0 0 1 0\n",
+        1,
+        "refused torus\n",
+    ),
+    (
+        "torus n 1:0:1 1:0:1 2:-1:1 -1:0:2 0\n",
+        1,
+        "refused torus\n",
+    ),
+    (
+        "torus n 1:0:1 1:0:1 2:-1:1 2:-1:1 2\nregion 0 1\n1 0 0 0 0 0\nregion 1 2\n0 0 0 1 0 0\n0 0 0 0 0 1\n",
+        1,
+        "refused plane 1 1\n",
+    ),
+    ("code n x 1:0:1 1:0:1 1 1\n", 1, "refused unknown x\n"),
+    ("code n s 1:0:1 1:0:1 1 1\n", 1, "refused kind s\n"),
+    ("code n t 1:0:1 1:0:10 1 1\n", 1, "refused outside box\n"),
+    ("code n t 1:0:10 -1:0:10 1 1\n", 1, "refused outside box\n"),
+    (
+        "code n t 32769:0:32768 1:0:32769 1 1\n",
+        1,
+        "refused outside box\n",
+    ),
+    ("code n t 1:0:32769 1:0:32768 1 1\n", 5, "limit golden\n"),
+    (
+        "code n t 1:0:10 0:0:1 1 1\n",
+        1,
+        "refused unplaced at 0 0\n",
+    ),
+    (
+        "code n o 1:0:10 1:0:10 3 2\n",
+        1,
+        "refused doubled at 2 0\n",
+    ),
+    ("induce n x 1\n", 1, "refused unknown x\n"),
+    ("induce n c 1\n", 1, "refused kind c\n"),
+    ("induce n h 1\n", 1, "refused half\n"),
+    ("induce n h 2\n", 5, "limit golden\n"),
+    ("valid c\n", 1, "refused no set\n"),
+    ("valid t\n", 1, "refused kind t\n"),
+    ("fuse t 1 0 0\n", 1, "refused kind t\n"),
+    ("cert t\n", 1, "refused kind t\n"),
+    ("derive n t 1 after 0 0 0\n", 1, "refused kind t\n"),
+    ("draw c boxes\n", 1, "refused no set\n"),
+];
+
 /// The first of some commands.
 #[tactic(auto, using(crate::proofs::Fitting::first_fits))]
 fn first(commands: &[Command]) -> Option<&Command>
@@ -292,6 +358,32 @@ fn derives_no_step_where_there_is_none(rt: HostRuntime) -> Result<(), Fail> {
     let (mut session, mut out) = five_sets(alloc).ok_or("five")?;
     for row in &UNDERIVED {
         let is_so = is_refused(alloc, &mut session, &mut out, row, &SETS_TOLD);
+        assert!(rt; is_so == Some(true), "{}", row.0);
+    }
+    Ok(())
+}
+
+/// A session with the three partitions, the code and the set, and what was printed.
+fn five_divided(alloc: Global) -> Option<(Session, Vec<u8>)> {
+    let mut session = Session::new(alloc);
+    let mut out = Vec::new(alloc);
+    run_each(alloc, &mut session, &mut out, &PARTITIONS)?;
+    Some((session, out))
+}
+
+#[test]
+fn codes_a_point_by_the_fibonacci_word(rt: HostRuntime) -> Result<(), Fail> {
+    let (_, out) = five_divided(rt.alloc()).ok_or("five")?;
+    assert!(rt; out.as_slice() == DIVIDED.as_bytes());
+    Ok(())
+}
+
+#[test]
+fn leaves_partitions_as_they_were(rt: HostRuntime) -> Result<(), Fail> {
+    let alloc = rt.alloc();
+    let (mut session, mut out) = five_divided(alloc).ok_or("five")?;
+    for row in &UNDIVIDED {
+        let is_so = is_refused(alloc, &mut session, &mut out, row, &DIVIDED_TOLD);
         assert!(rt; is_so == Some(true), "{}", row.0);
     }
     Ok(())

@@ -7,6 +7,7 @@ use std::marker::Model;
 use wt_chain::Accepted;
 use wt_pattern::Pattern;
 use wt_tile::{SetRef, TileSet};
+use wt_torus::Partition;
 
 /// A pattern, and the set that it is over, if there is one: then each of its cells is a tile of the set.
 #[derive(Drop)]
@@ -63,4 +64,6 @@ pub enum Value {
     Pattern(Sheet),
     /// A good chain.
     Chain(Accepted),
+    /// A partition.
+    Partition(Partition),
 }

@@ -45,7 +45,8 @@ pub struct Wanted {
     pub budget: u64,
 }
 
-fn push_image(out: &mut Vec<u8>, image: Image) -> Result<(), AllocError>
+/// Appends an image in a line.
+pub fn push_image(out: &mut Vec<u8>, image: Image) -> Result<(), AllocError>
     ensures { OnOk result (out.new.items ≡ out.old.items ++ spec.image_text image) }
 {
     match image {
@@ -291,7 +292,7 @@ pub fn derive(
     };
     match value_named(alloc, names, base)? {
         Value::Set(set) => step_of(alloc, name, set.view(), None, wanted),
-        Value::Pattern(_) => Err(wrong_kind(alloc, base)),
+        Value::Pattern(_) | Value::Partition(_) => Err(wrong_kind(alloc, base)),
         Value::Chain(chain) => behind(alloc, name, chain, wanted),
     }
 }
