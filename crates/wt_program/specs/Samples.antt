@@ -109,10 +109,10 @@ abbrev pub IsEnded : SearchEnd → Reply → Type 0
 IsEnded e reply = (status : ℕ) × (text : List ℕ) × IsEndReply e (stops status text) × (reply ≡ by_status status text)
 
 -- the reply to what the search may answer
-abbrev pub IsAnswered : ℕ → TileList → Result RawChain SearchEnd → Reply → Type 0
-IsAnswered n set (Ok c) reply = IsSampled n set c reply
-IsAnswered n set (Err e) reply = IsEnded e reply
+abbrev pub IsSampleAnswer : ℕ → TileList → Result RawChain SearchEnd → Reply → Type 0
+IsSampleAnswer n set (Ok c) reply = IsSampled n set c reply
+IsSampleAnswer n set (Err e) reply = IsEnded e reply
 
 -- The reply of `sample`.
 abbrev pub IsSampleReply : ℕ → Reply → Type 0
-IsSampleReply n reply = (set : TileList) × IsU set × (answer : Result RawChain SearchEnd) × MayAnswerSearch u_question set LEVELS answer × IsAnswered n set answer reply
+IsSampleReply n reply = (set : TileList) × IsU set × (answer : Result RawChain SearchEnd) × MayAnswerSearch u_question set LEVELS answer × IsSampleAnswer n set answer reply
