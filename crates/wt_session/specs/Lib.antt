@@ -64,6 +64,7 @@ pub mod Seeds
 -- census C k t: how often each tile stands in what k turns of the loop make of tile t.
 pub mod Census
 pub mod Torus
+pub mod TorusTexts
 pub mod Code
 pub mod Induce
 pub mod Meaning

@@ -21,6 +21,7 @@ mod session;
 mod spent;
 #[cfg(test)]
 mod tests;
+mod torus_text;
 mod value;
 mod words;
 
@@ -30,4 +31,5 @@ pub use partitions::{PartitionFault, partition};
 pub use reply::CommandFault;
 pub use script::run_all;
 pub use session::Session;
+pub use torus_text::{TorusTextFault, read_torus};
 pub use wt_script::{Command, Style, Word, parse_script};
