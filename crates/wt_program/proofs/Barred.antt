@@ -20,7 +20,7 @@ use Rattle.wt_strip.specs.declared.making.StripEnd.TheVariants as end
 use Rattle.wt_strip.proofs.Faults.{forbid}
 use Rattle.wt_program.specs.declared.reply.Reply.{Reply}
 use Rattle.wt_program.specs.declared.reply.Reply.TheVariants.{Refused}
-use Rattle.wt_program.specs.Commands.{Command, check, run, desub, bound, expand, periodic, strip, strip_check, sample, command}
+use Rattle.wt_program.specs.Commands.{Command, check, run, desub, bound, expand, periodic, strip, strip_check, markov, markov_step, sample, command}
 use Rattle.wt_program.specs.Replies.{Answer, said}
 use Rattle.wt_program.specs.SetTexts.{set_part, IsListReply, IsSetReply}
 use Rattle.wt_program.specs.Strips.{IsStripAnswer, IsToldStrip, IsLayersReply}
@@ -89,6 +89,8 @@ by_command (Some (desub step)) bytes old new answer is well done = tt
 by_command (Some (bound x y)) bytes old new answer is well done = tt
 by_command (Some (expand width height)) bytes old new answer is well done = tt
 by_command (Some (periodic limit budget)) bytes old new answer is well done = tt
+by_command (Some markov) bytes old new answer is well done = tt
+by_command (Some (markov_step step)) bytes old new answer is well done = tt
 by_command (Some (sample side)) bytes old new answer is well done = tt
 by_command (Some (strip w h)) bytes old new answer is well done = within (nat_lt 16777216 (length bytes)) is
   where

@@ -8,7 +8,9 @@ use Rattle.wt_text.specs.Readers.{TextFault, syntax_at, limit_at, whole_text}
 use Rattle.wt_grid.specs.Grid.{Grid}
 use Rattle.wt_pattern.specs.PatternRows.{pattern_lines}
 use Rattle.wt_pattern.specs.Validity.{first_stranger}
+use Rattle.wt_step.specs.declared.raw.RawStep.{RawStep}
 use Rattle.wt_step.specs.declared.raw.RawLink.{RawLink}
+use Rattle.wt_step.specs.declared.raw.RawLink.TheVariants.{Marker, Restrict}
 use Rattle.wt_step.specs.declared.coarse.DesubFault.{DesubFault}
 use Rattle.wt_step.specs.declared.coarse.DesubFault.TheVariants.{NotValid, TooSmall, OutOfMemory}
 use Rattle.wt_step.specs.Links.{fine_of}
@@ -25,7 +27,7 @@ use Rattle.wt_scale.specs.declared.size.SizeFault.TheVariants as why
 use Rattle.wt_program.specs.declared.reply.Reply.{Reply}
 use Rattle.wt_program.specs.declared.reply.Reply.TheVariants.{Answered, Limit}
 use Rattle.wt_line.specs.Signed.{signed_value}
-use Rattle.wt_program.specs.Commands.{Command, check, run, desub, bound, expand, periodic, strip, strip_check, sample, has_budget}
+use Rattle.wt_program.specs.Commands.{Command, check, run, desub, bound, expand, periodic, strip, strip_check, markov, markov_step, sample, has_budget}
 use Rattle.wt_program.specs.Replies.{said}
 use Rattle.wt_program.specs.Faults.{fault_reply}
 use Rattle.wt_program.specs.Checks.{chain_of, judged_by, accepted_read, reply_or, report_reply}
@@ -42,9 +44,20 @@ use Rattle.wt_strip.specs.declared.making.Stripped.{Stripped}
 use Rattle.wt_strip.specs.declared.making.Stripped.TheVariants as made
 use Rattle.wt_strip.specs.declared.making.StripEnd.{StripEnd}
 use Rattle.wt_strip.specs.declared.making.StripEnd.TheVariants as end
+use Rattle.wt_torus.specs.declared.partition.Partition.{Partition}
+use Rattle.wt_script.specs.declared.torus.RawTorus.{RawTorus}
+use Rattle.wt_session.specs.declared.partitions.PartitionFault.{PartitionFault}
+use Rattle.wt_session.specs.Partitions.{partition_of}
+use Rattle.wt_markov.specs.declared.fault.MarkovFault.{MarkovFault}
+use Rattle.wt_markov.specs.declared.fault.MarkovFault.TheVariants as pairs
+use Rattle.wt_markov.specs.declared.fault.WindowFault.{WindowFault}
+use Rattle.wt_markov.specs.declared.fault.WindowFault.TheVariants as window
+use Rattle.wt_markov.specs.Faults.{markov_fault}
+use Rattle.wt_markov.specs.WindowFaults.{window_fault}
 use Rattle.wt_program.specs.SetTexts.{set_part, IsListReply, IsSetReply}
 use Rattle.wt_program.specs.Strips.{IsToldStrip, IsLayersReply}
 use Rattle.wt_program.specs.StripChecks.{set_and_layers, IsLayersVerdict, IsReadLayersReply}
+use Rattle.wt_program.specs.Markovs.{set_and_torus, chain_and_torus, pairs_refusal, window_refusal, pairs_reply, window_reply, marked_reply, link_reply, made_reply, codes_reply, IsReadTorusReply, markers_reply, read_reply}
 use Rattle.wt_program.specs.Answers.{IsReply}
 
 unspent_fault : (fault : TextFault What) → (said (fault_reply fault)).status ≢ 6
@@ -139,6 +152,56 @@ unspent_read_layers : (r : Result (TileList × Layers) (TextFault What)) (reply 
 unspent_read_layers (Ok x) reply is = unspent_list (IsLayersVerdict x.1) (unspent_verdict x.1) x.0 (set_fault x.0) reply is
 unspent_read_layers (Err fault) reply is = said_as reply _ is (unspent_fault fault)
 
+unspent_pairs_fault : (fault : MarkovFault) → (said (pairs_refusal fault)).status ≢ 6
+unspent_pairs_fault (pairs.Tile i) e = cc
+unspent_pairs_fault pairs.TooLarge e = cc
+unspent_pairs_fault (pairs.Pair axis i j) e = cc
+
+unspent_window_fault : (fault : WindowFault) → (said (window_refusal fault)).status ≢ 6
+unspent_window_fault window.Side e = cc
+unspent_window_fault window.Half e = cc
+unspent_window_fault window.TooLarge e = cc
+unspent_window_fault (window.Outside i) e = cc
+unspent_window_fault (window.Inside i) e = cc
+unspent_window_fault (window.Nowhere a) e = cc
+
+unspent_pairs : (p : Partition) (f : Option MarkovFault) → (said (pairs_reply p f)).status ≢ 6
+unspent_pairs p None = λ e. cc
+unspent_pairs p (Some fault) = unspent_pairs_fault fault
+
+unspent_window : (p : Partition) (f : Option WindowFault) → (said (window_reply p f)).status ≢ 6
+unspent_window p None = λ e. cc
+unspent_window p (Some fault) = unspent_window_fault fault
+
+unspent_marked : (s : RawStep) (p : Partition) (f : Option MarkovFault) → (said (marked_reply s p f)).status ≢ 6
+unspent_marked s p None = unspent_window p (window_fault s p)
+unspent_marked s p (Some fault) = unspent_pairs_fault fault
+
+unspent_link : (step : List ℕ) (p : Partition) (o : Option RawLink) → (said (link_reply step p o)).status ≢ 6
+unspent_link step p None = λ e. cc
+unspent_link step p (Some (Restrict s)) = λ e. cc
+unspent_link step p (Some (Marker s)) = unspent_marked s p (markov_fault s.fine.tiles p)
+
+unspent_made : (answer : Partition → Reply) → ((p : Partition) → (said (answer p)).status ≢ 6) → (r : Result Partition PartitionFault) → (said (made_reply answer r)).status ≢ 6
+unspent_made answer never (Ok p) = never p
+unspent_made answer never (Err fault) = λ e. cc
+
+unspent_codes : (torus : RawTorus) (ts : List Tile) (reply : Reply) → reply ≡ codes_reply torus ts → (said reply).status ≢ 6
+unspent_codes torus ts reply is = said_as reply _ is (unspent_made (λ p. pairs_reply p (markov_fault ts p)) (λ p. unspent_pairs p (markov_fault ts p)) (partition_of torus.sides torus.regions))
+
+unspent_with_set : (r : Result (TileList × RawTorus) (TextFault What)) (reply : Reply) → IsReadTorusReply r reply → (said reply).status ≢ 6
+unspent_with_set (Ok x) reply is = unspent_list (λ ts r. r ≡ codes_reply x.1 ts) (unspent_codes x.1) x.0 (set_fault x.0) reply is
+unspent_with_set (Err fault) reply is = said_as reply _ is (unspent_fault fault)
+
+unspent_markers : (step : List ℕ) (torus : RawTorus) (c : RawChain) → (said (markers_reply step torus c)).status ≢ 6
+unspent_markers step torus c =
+    let o = slice_get c.steps (value_from 0 step) in
+    unspent_made (λ p. link_reply step p o) (λ p. unspent_link step p o) (partition_of torus.sides torus.regions)
+
+unspent_with_chain : (step : List ℕ) (r : Result (RawChain × RawTorus) (TextFault What)) → (said (read_reply step r)).status ≢ 6
+unspent_with_chain step (Ok x) = unspent_judged (markers_reply step x.1) (unspent_markers step x.1) x.0 (chain_fault x.0)
+unspent_with_chain step (Err fault) = unspent_fault fault
+
 pub unspent : (c : Command) (bytes : List ℕ) (reply : Reply) → has_budget c ≡ false → IsReply c bytes reply → (said reply).status ≢ 6
 unspent check bytes reply none is = said_as reply _ is (unspent_read report_reply (λ c e. cc) (chain_of bytes))
 unspent run bytes reply none is = absurd cc
@@ -148,4 +211,6 @@ unspent (expand w h) bytes reply none is = said_as reply _ is (unspent_read (exp
 unspent (periodic n b) bytes reply none is = absurd cc
 unspent (strip w h) bytes reply none is = unspent_set (IsLayersReply (value_from 0 w) (value_from 0 h)) (unspent_layers (value_from 0 w) (value_from 0 h)) (whole_text set_part (lines bytes)) reply is
 unspent strip_check bytes reply none is = unspent_read_layers (set_and_layers bytes) reply is
+unspent markov bytes reply none is = unspent_with_set (set_and_torus bytes) reply is
+unspent (markov_step step) bytes reply none is = said_as reply _ is (unspent_with_chain step (chain_and_torus bytes))
 unspent (sample n) bytes reply none is = absurd cc

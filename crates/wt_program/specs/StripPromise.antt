@@ -11,7 +11,7 @@ use Rattle.wt_pattern.specs.Patterns.{IsPattern}
 use Rattle.wt_scale.specs.Existence.{IsPatternOf}
 use Rattle.wt_strip.specs.declared.layers.Layers.{Layers}
 use Rattle.wt_program.specs.SetTexts.{set_part}
-use Rattle.wt_program.specs.Commands.{Command, check, run, desub, bound, expand, periodic, strip, strip_check, sample}
+use Rattle.wt_program.specs.Commands.{Command, check, run, desub, bound, expand, periodic, strip, strip_check, markov, markov_step, sample}
 use Rattle.wt_program.specs.Strips.{empty_text, filled_text}
 use Rattle.wt_program.specs.StripChecks.{set_and_layers}
 
@@ -44,6 +44,8 @@ IsStripPromise (Some (desub step)) bytes old new = Unit {0}
 IsStripPromise (Some (bound x y)) bytes old new = Unit {0}
 IsStripPromise (Some (expand width height)) bytes old new = Unit {0}
 IsStripPromise (Some (periodic limit budget)) bytes old new = Unit {0}
+IsStripPromise (Some markov) bytes old new = Unit {0}
+IsStripPromise (Some (markov_step step)) bytes old new = Unit {0}
 IsStripPromise (Some (sample side)) bytes old new = Unit {0}
 IsStripPromise (Some (strip w h)) bytes old new = IsSettled (value_from 0 w) (value_from 0 h) bytes old new
 IsStripPromise (Some strip_check) bytes old new = IsBarring bytes
