@@ -30,15 +30,15 @@ use Rattle.wt_program.specs.Outcomes.{IsAnswered}
 use Rattle.wt_program.specs.StripPromise.{HasNoPattern, IsBarring, IsFilling, IsEmptying, IsSettled, IsStripPromise}
 
 -- the reply says that the words were answered
-abbrev SaysYes : Reply → Type 0
+abbrev pub SaysYes : Reply → Type 0
 SaysYes reply = (said reply).status ≡ 0
 
-yes_of : (reply other : Reply) → reply ≡ other → SaysYes reply → SaysYes other
+pub yes_of : (reply other : Reply) → reply ≡ other → SaysYes reply → SaysYes other
 yes_of reply other e well = subst (λ (r : Reply). SaysYes r) e well
 
 module _ (answers : List Tile → Reply → Type 0) where
   -- a list that was answered is a set
-  answered_list : (list : TileList) (f : Option SetFault) (reply : Reply) → IsListReply answers list f reply → SaysYes reply → answers list.tiles reply
+  pub answered_list : (list : TileList) (f : Option SetFault) (reply : Reply) → IsListReply answers list f reply → SaysYes reply → answers list.tiles reply
   answered_list list None reply is well = is
   answered_list list (Some Empty) reply is well = absurd (let y : 1 ≡ 0 = yes_of reply _ is well in cc)
   answered_list list (Some (Repeated i j)) reply is well = absurd (let y : 1 ≡ 0 = yes_of reply _ is well in cc)

@@ -15,7 +15,7 @@ use Rattle.wt_script.specs.declared.torus.RawBox.{RawBox}
 use Rattle.wt_script.specs.declared.torus.RawRegion.{RawRegion}
 use Rattle.wt_session.specs.declared.partitions.PartitionFault.{PartitionFault}
 use Rattle.wt_session.specs.declared.partitions.PartitionFault.TheVariants.{Torus}
-use Rattle.wt_session.specs.Partitions.{rotation_of, written_half, is_zero, is_plane, half_of, half_before, halves_from, labelled, regions_from, partition_of}
+use Rattle.wt_session.specs.Partitions.{rotation_of, written_half, is_zero, is_plane, half_from, half_of, half_before, halves_from, labelled, regions_from, partition_of}
 use Rattle.wt_program.proofs.Tori.{IsUpright}
 
 and_first : (a b : Bool) → a && b ≡ true → a ≡ true
@@ -30,7 +30,7 @@ directed h e both =
     cc
 
 half_directed : (ns : List ℤ) (h : Half) → half_of ns ≡ Some h → HasDirection h
-unfolding half_of
+unfolding half_from
 half_directed ns h e =
     let w = written_half ns in
     let t = if_some (is_plane w) (Some (reduced_half w)) h e in
