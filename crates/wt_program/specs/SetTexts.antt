@@ -1,6 +1,5 @@
 -- A tile set that comes in as text, read and tested once for all words that take one.
-use Rattle.std.specs.Prelude.{◌≡◌, ℕ, List, ◌++◌, codes, Option, None, Some, Result, Ok, Err}
-use Rattle.std.specs.Fmt.{decimal}
+use Rattle.std.specs.Prelude.{◌≡◌, ℕ, List, codes, Option, None, Some, Result, Ok, Err}
 use Rattle.wt_line.specs.declared.faults.What.{What}
 use Rattle.wt_text.specs.Lines.{Line}
 use Rattle.wt_text.specs.Readers.{TextFault}
@@ -10,6 +9,7 @@ use Rattle.wt_tile.specs.declared.tile.SetFault.{SetFault}
 use Rattle.wt_tile.specs.declared.tile.SetFault.TheVariants.{Empty, TooMany, NoColour, Names, Repeated}
 use Rattle.wt_tile.specs.Sets.{set_fault}
 use Rattle.wt_cert.specs.Parts.{tiles_part}
+use Rattle.wt_session.specs.Texts.{repeated_text}
 use Rattle.wt_program.specs.declared.reply.Reply.{Reply}
 use Rattle.wt_program.specs.declared.reply.Reply.TheVariants.{Refused}
 use Rattle.wt_program.specs.Faults.{fault_reply}
@@ -17,10 +17,6 @@ use Rattle.wt_program.specs.Faults.{fault_reply}
 -- `tiles n`, and n rows of names
 abbrev pub set_part : ℕ × List Line → Result (TileList × (ℕ × List Line)) (TextFault What)
 set_part = tiles_part (codes "tiles")
-
--- two tiles alike, by their numbers
-abbrev pub repeated_text : ℕ → ℕ → List ℕ
-repeated_text i j = codes "refused repeated " ++ (decimal i ++ (codes " " ++ (decimal j ++ codes "\n")))
 
 -- A list that was read is a set, or it is refused for being empty or for two tiles alike: its colours are numbered, with names of their own, and it has at most 256 tiles.
 abbrev pub IsSetRefusal : SetFault → Reply → Type 0

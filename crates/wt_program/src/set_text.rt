@@ -1,5 +1,5 @@
 // A tile set that comes in as text, for all words that take one.
-ghost use Rattle.std.specs.Prelude.{◌≡◌, ◌≤◌, IfOk, Some, codes, string_bytes};
+ghost use Rattle.std.specs.Prelude.{◌≡◌, ◌≤◌, IfOk, Some, codes};
 ghost use Rattle.wt_text.specs.Words.{tokens};
 ghost use Rattle.wt_text.specs.Lines.{lines};
 ghost use Rattle.wt_text.specs.Readers.{one_line, whole_text};
@@ -10,7 +10,7 @@ ghost use Rattle.wt_tile.specs.Sets.{set_fault};
 ghost use Rattle.wt_cert.specs.LineForms.{count_form};
 ghost use Rattle.wt_grid.specs.declared.limits.TheConstants.{MAX_TILES};
 ghost use Rattle.wt_pattern.specs.Plain.{IsPlain};
-ghost use Rattle.wt_program.specs.SetTexts.{set_part, repeated_text, IsSetRefusal};
+ghost use Rattle.wt_program.specs.SetTexts.{set_part, IsSetRefusal};
 
 use crate::reply::{Reply, refused};
 use std::alloc::{AllocError, Global};
@@ -20,6 +20,7 @@ use wt_line::{
 };
 use wt_pattern::tiles_at;
 use wt_seq::Seq;
+use wt_session::repeated_line;
 use wt_tile::{SetFault, TileList};
 
 /// `tiles n`: how many tiles follow.
@@ -65,13 +66,6 @@ pub fn read_set_text(alloc: Global, bytes: &[u8]) -> Result<TileList, TextFault>
     let (list, place) = set_at(alloc, Place::new(bytes))?;
     text_end(place)?;
     Ok(list)
-}
-
-/// The line of two tiles alike.
-fn repeated_line(alloc: Global, i: usize, j: usize) -> Result<String, AllocError>
-    ensures { IfOk result (λ text. string_bytes text ≡ repeated_text i j) }
-{
-    format!(in alloc; "refused repeated {i} {j}\n")
 }
 
 /// The reply to a list that is no set.

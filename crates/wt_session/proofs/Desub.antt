@@ -21,7 +21,8 @@ use Rattle.wt_session.specs.declared.reply.CommandFault.TheVariants.{Refused, Ou
 use Rattle.wt_session.specs.Sheets.{AreTiles}
 use Rattle.wt_session.specs.Said.{Replies, IsRefusal}
 use Rattle.wt_session.specs.Replies.{Reply, says, binds, stops, refused}
-use Rattle.wt_session.specs.Desub.{IsTakenReply, IsSetReply, coarse_reply, clash_text}
+use Rattle.wt_session.specs.Desub.{IsTakenReply, IsSetReply, coarse_reply}
+use Rattle.wt_session.specs.Texts.{not_valid_text}
 
 -- the cells of a valid pattern are tiles
 pub coarse_tiles : (set : TileList) (q : Grid) → IsPattern set.tiles q → first_stranger (length set.tiles) q ≡ None
@@ -66,9 +67,9 @@ taken_told n link p q low high made x never is valid l h r = by x r
 
 -- neighbours that don't match
 pub clash_told : (n : List ℕ) (link : RawLink) (p : Grid) (fault : Fault) (stopped : CommandFault) → (NotValid fault ≡ OutOfMemory) ⊎ (desub_fault link p ≡ Some (NotValid fault))
-    → IsRefusal 1 (clash_text fault) stopped → Replies (IsTakenReply n link p (desub_fault link p)) (Err stopped)
+    → IsRefusal 1 (not_valid_text fault) stopped → Replies (IsTakenReply n link p (desub_fault link p)) (Err stopped)
 clash_told n link p fault stopped (inl e) is = absurd cc
-clash_told n link p fault (Refused s t) (inr e) is = by_fault n link p (stops s t) (Some (NotValid fault)) e (let k : stops s t ≡ refused (clash_text fault) = cc in k)
+clash_told n link p fault (Refused s t) (inr e) is = by_fault n link p (stops s t) (Some (NotValid fault)) e (let k : stops s t ≡ refused (not_valid_text fault) = cc in k)
 clash_told n link p fault CommandOutOfMemory (inr e) is = tt
 
 pub small_told : (n : List ℕ) (link : RawLink) (p : Grid) (stopped : CommandFault) → (TooSmall ≡ OutOfMemory) ⊎ (desub_fault link p ≡ Some TooSmall)

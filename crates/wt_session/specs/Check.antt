@@ -1,8 +1,6 @@
 -- What `check N n` answers to n lines: what the program's `check` prints for them as its input.
-use Rattle.std.specs.Prelude.{ℕ, nat_lt, if◌then◌else◌, List, ◌++◌, length, codes, Option, None, Some, Result, Ok, Err}
-use Rattle.std.specs.Fmt.{decimal}
+use Rattle.std.specs.Prelude.{ℕ, nat_lt, if◌then◌else◌, List, length, codes, Option, None, Some, Result, Ok, Err}
 use Rattle.wt_line.specs.declared.faults.What.{What}
-use Rattle.wt_line.specs.Limits.{limit_word}
 use Rattle.wt_text.specs.Lines.{lines}
 use Rattle.wt_text.specs.Readers.{TextFault, syntax_at, limit_at, whole_text}
 use Rattle.wt_chain.specs.declared.raw.RawChain.{RawChain}
@@ -13,14 +11,7 @@ use Rattle.wt_cert.specs.Parts.{cert_part}
 use Rattle.wt_session.specs.declared.limits.TheConstants.{MAX_INPUT}
 use Rattle.wt_session.specs.declared.value.Value.TheVariants.{Chain}
 use Rattle.wt_session.specs.Replies.{Reply, binds, refused, limit}
-
--- a text that is malformed at this line
-abbrev pub syntax_text : ℕ → List ℕ
-syntax_text n = codes "refused syntax line " ++ (decimal n ++ codes "\n")
-
--- a text that passes a limit at this line
-abbrev pub limit_text : What → ℕ → List ℕ
-limit_text what n = codes "limit " ++ (limit_word what ++ (codes " line " ++ (decimal n ++ codes "\n")))
+use Rattle.wt_session.specs.Texts.{syntax_text, limit_text}
 
 -- a chain that was read, by its first failing condition
 abbrev pub judged : List ℕ → RawChain → Option Refusal → Reply

@@ -1,13 +1,10 @@
 -- What `desub N C k P` answers.
 use Rattle.std.specs.Prelude.{◌≡◌, ℕ, Bool, true, false, List, ◌++◌, slice_get, codes, Option, None, Some, Result, Ok, Err}
-use Rattle.wt_grid.specs.Axes.{axis_number}
 use Rattle.std.specs.Fmt.{decimal}
-use Rattle.wt_text.specs.Lines.{bytes_of}
 use Rattle.wt_grid.specs.Grid.{Grid}
 use Rattle.wt_tile.specs.declared.tile.TileList.{TileList}
 use Rattle.wt_pattern.specs.declared.fault.Fault.{Fault}
 use Rattle.wt_pattern.specs.Patterns.{IsPattern}
-use Rattle.wt_pattern.specs.PatternRows.{pattern_lines}
 use Rattle.wt_step.specs.declared.raw.RawLink.{RawLink}
 use Rattle.wt_step.specs.declared.coarse.DesubFault.{DesubFault}
 use Rattle.wt_step.specs.declared.coarse.DesubFault.TheVariants.{NotValid, TooSmall, OutOfMemory}
@@ -15,11 +12,11 @@ use Rattle.wt_step.specs.Links.{fine_of, coarse_of}
 use Rattle.wt_step.specs.Coarse.{IsDesubstitution, cuts_low, cuts_high, desub_fault}
 use Rattle.wt_chain.specs.declared.raw.RawChain.{RawChain}
 use Rattle.wt_chain.specs.Sets.{same_set}
-use Rattle.wt_expand.specs.Rows.{bit}
 use Rattle.wt_session.specs.declared.value.Value.TheVariants.{Pattern}
 use Rattle.wt_session.specs.Sheets.{Laid}
 use Rattle.wt_session.specs.Names.{Names}
 use Rattle.wt_session.specs.Replies.{Reply, binds, refused, pattern_named, chain_named}
+use Rattle.wt_session.specs.Texts.{not_valid_text, coarse_text}
 
 -- The coarse pattern is over the set of level k + 1. It isn't computed here but named by the law that there is only one.
 
@@ -27,22 +24,13 @@ use Rattle.wt_session.specs.Replies.{Reply, binds, refused, pattern_named, chain
 abbrev pub step_text : ℕ → List ℕ
 step_text k = codes "refused step " ++ (decimal k ++ codes "\n")
 
--- neighbours that don't match: along which axis, and the column and row of the first of the two
-abbrev pub clash_text : Fault → List ℕ
-clash_text f = codes "refused not valid axis " ++ (decimal (axis_number f.axis) ++ (codes " at " ++ (decimal f.x ++ (codes " " ++ (decimal f.y ++ codes "\n")))))
-
--- the coarse pattern, whether a border line was cut off on its low and on its high side, and its rows, the top one first
-abbrev pub coarse_text : Grid → Bool → Bool → List ℕ
-coarse_text q low high =
-    codes "coarse " ++ (decimal q.width ++ (codes " " ++ (decimal q.height ++ (codes "\ncut " ++ (decimal (bit low) ++ (codes " " ++ (decimal (bit high) ++ (codes "\n" ++ bytes_of (pattern_lines q)))))))))
-
 -- the coarse pattern over the step's coarse set, bound to a name
 abbrev pub coarse_reply : List ℕ → RawLink → Grid → Bool → Bool → Reply
 coarse_reply n link q low high = binds n (Pattern (record { pattern = q; over = Some (coarse_of link) })) (coarse_text q low high)
 
 -- a pattern of tiles: its first neighbours that don't match, or that it is too small, or else its coarse pattern
 abbrev pub IsTakenReply : List ℕ → RawLink → Grid → Option DesubFault → Reply → Type 0
-IsTakenReply n link p (Some (NotValid fault)) reply = reply ≡ refused (clash_text fault)
+IsTakenReply n link p (Some (NotValid fault)) reply = reply ≡ refused (not_valid_text fault)
 IsTakenReply n link p (Some TooSmall) reply = reply ≡ refused (codes "refused too small\n")
 IsTakenReply n link p (Some OutOfMemory) reply = ⊥
 IsTakenReply n link p None reply = (q : Grid) × IsDesubstitution link p q × IsPattern (coarse_of link).tiles q × (reply ≡ coarse_reply n link q (cuts_low link p) (cuts_high link p))

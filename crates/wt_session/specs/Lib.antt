@@ -6,6 +6,8 @@ pub mod Names
 pub mod Replies
 -- Scaffolding: what the code's answers say of replies.
 pub mod Said
+-- Lines that a script's commands and the program's words both answer.
+pub mod Texts
 -- What `tiles N n` answers.
 pub mod Tiles
 -- What `pattern N S w h` answers.

@@ -1,20 +1,17 @@
 -- What `pattern N S w h` answers.
 use Rattle.std.specs.Prelude.{ℕ, List, ◌++◌, length, codes, Option, None, Some, Result, Ok, Err}
 use Rattle.std.specs.Fmt.{decimal}
-use Rattle.wt_grid.specs.Grid.{Grid, cell}
+use Rattle.wt_grid.specs.Grid.{Grid}
 use Rattle.wt_tile.specs.declared.tile.TileList.{TileList}
 use Rattle.wt_pattern.specs.Validity.{first_stranger}
 use Rattle.wt_session.specs.declared.value.Value.TheVariants.{Pattern}
 use Rattle.wt_session.specs.Names.{Names}
 use Rattle.wt_session.specs.Replies.{Reply, binds, refused, set_named}
+use Rattle.wt_session.specs.Texts.{stranger_text}
 
 -- the width and height
 abbrev pub pattern_text : Grid → List ℕ
 pattern_text p = codes "pattern " ++ (decimal p.width ++ (codes " " ++ (decimal p.height ++ codes "\n")))
-
--- a cell that is no tile of the set: its number, and its column and row
-abbrev pub stranger_text : Grid → ℕ × ℕ → List ℕ
-stranger_text p at = codes "refused tile " ++ (decimal (cell p at.0 at.1) ++ (codes " at " ++ (decimal at.0 ++ (codes " " ++ (decimal at.1 ++ codes "\n")))))
 
 -- the cells over a set, where they are its tiles
 abbrev pub placed : List ℕ → TileList → Grid → Option (ℕ × ℕ) → Reply

@@ -8,14 +8,11 @@ use Rattle.wt_tile.specs.declared.tile.SetFault.TheVariants.{Empty, TooMany, NoC
 use Rattle.wt_tile.specs.Sets.{set_fault}
 use Rattle.wt_session.specs.declared.value.Value.TheVariants.{Set}
 use Rattle.wt_session.specs.Replies.{Reply, binds, refused}
+use Rattle.wt_session.specs.Texts.{repeated_text}
 
 -- the numbers of tiles, and of colours of axis 1 and of axis 2
 abbrev pub tiles_text : TileList → List ℕ
 tiles_text set = codes "tiles " ++ (decimal (length set.tiles) ++ (codes " colours " ++ (decimal (length set.names1) ++ (codes " " ++ (decimal (length set.names2) ++ codes "\n")))))
-
--- two equal tiles
-abbrev pub repeated_text : ℕ → ℕ → List ℕ
-repeated_text i j = codes "refused repeated " ++ (decimal i ++ (codes " " ++ (decimal j ++ codes "\n")))
 
 -- A list that was read has its colours numbered, with names of their own, and at most 256 tiles, so no other fault comes.
 abbrev pub IsTilesReplyBy : Option SetFault → List ℕ → TileList → Reply → Type 0

@@ -21,6 +21,7 @@ mod session;
 mod spent;
 #[cfg(test)]
 mod tests;
+mod texts;
 mod torus_text;
 mod value;
 mod words;
@@ -31,5 +32,8 @@ pub use partitions::{PartitionFault, partition};
 pub use reply::CommandFault;
 pub use script::run_all;
 pub use session::Session;
+pub use texts::{
+    coarse_lines, not_valid_line, past_line, repeated_line, stranger_line, syntax_line,
+};
 pub use torus_text::{TorusTextFault, read_torus};
 pub use wt_script::{Command, Style, Word, parse_script};

@@ -1,30 +1,18 @@
 // The word `check`.
-ghost use Rattle.std.specs.Prelude.{◌≡◌, IfOk, string_bytes};
+ghost use Rattle.std.specs.Prelude.{◌≡◌};
 ghost use Rattle.wt_chain.specs.Faults.{chain_fault};
 ghost use Rattle.wt_session.specs.Said.{Replies};
-ghost use Rattle.wt_session.specs.Check.{syntax_text, limit_text, judged, check_reply};
+ghost use Rattle.wt_session.specs.Check.{judged, check_reply};
 
 use crate::limits::MAX_INPUT;
 use crate::reply::{Answer, CommandFault, limit, limit_line, refused, refused_line};
+use crate::texts::{past_line, syntax_line};
 use crate::value::Value;
-use std::alloc::{AllocError, Global};
+use std::alloc::Global;
 use wt_cert::read_cert;
 use wt_chain::RawChain;
-use wt_line::{TextFault, What};
+use wt_line::TextFault;
 use wt_seq::Seq;
-
-fn syntax_line(alloc: Global, line: usize) -> Result<String, AllocError>
-    ensures { IfOk result (λ text. string_bytes text ≡ syntax_text line) }
-{
-    format!(in alloc; "refused syntax line {line}\n")
-}
-
-fn past_line(alloc: Global, what: What, line: usize) -> Result<String, AllocError>
-    ensures { IfOk result (λ text. string_bytes text ≡ limit_text what line) }
-{
-    let word = what.as_str();
-    format!(in alloc; "limit {word} line {line}\n")
-}
 
 fn judge(alloc: Global, name: &Seq<u8>, chain: RawChain) -> Result<Answer, CommandFault>
     ensures { Replies (λ reply. reply ≡ judged name.now chain (chain_fault chain)) result }

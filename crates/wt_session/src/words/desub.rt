@@ -1,7 +1,5 @@
 // The word `desub`.
 ghost use Rattle.std.specs.Prelude.{◌≡◌, IfOk, MatchOption, string_bytes, None, Some, length, slice_get};
-ghost use Rattle.wt_grid.specs.Axes.{axis_number};
-ghost use Rattle.wt_expand.specs.Rows.{bit};
 ghost use Rattle.wt_pattern.specs.Patterns.{IsPattern};
 ghost use Rattle.wt_pattern.specs.Validity.{first_stranger};
 ghost use Rattle.wt_step.specs.Links.{fine_of, coarse_of};
@@ -9,26 +7,20 @@ ghost use Rattle.wt_step.specs.Views.{link_of};
 ghost use Rattle.wt_step.specs.Coarse.{desub_fault};
 ghost use Rattle.wt_chain.specs.Sets as chain_sets;
 ghost use Rattle.wt_session.specs.Said.{Replies, IsRefusal};
-ghost use Rattle.wt_session.specs.Desub.{step_text, clash_text, coarse_text, coarse_reply, IsTakenReply, IsSetReply, IsStepReply, IsDesubReply};
+ghost use Rattle.wt_session.specs.Texts.{not_valid_text};
+ghost use Rattle.wt_session.specs.Desub.{step_text, coarse_reply, IsTakenReply, IsSetReply, IsStepReply, IsDesubReply};
 
 use crate::lookup::{chain_named, pattern_named};
 use crate::names::Names;
 use crate::reply::{Answer, CommandFault, refused, refused_line};
+use crate::texts::{coarse_lines, not_valid_line};
 use crate::value::{Sheet, Value};
-use crate::words::valid::axis_of;
 use std::alloc::{AllocError, Global};
 use wt_chain::{Accepted, same_set};
-use wt_pattern::{Fault, Pattern, push_pattern};
+use wt_pattern::{Fault, Pattern};
 use wt_seq::Seq;
 use wt_step::{Coarse, DesubFault, LinkRef, desubstitute};
 use wt_tile::SetRef;
-
-/// 1 for true, 0 for false, as texts say it.
-fn bit(value: bool) -> u8
-    ensures { result ≡ bit value }
-{
-    if value { 1 } else { 0 }
-}
 
 /// The line of a step past the last.
 fn step_line(alloc: Global, step: usize) -> Result<String, AllocError>
@@ -37,38 +29,14 @@ fn step_line(alloc: Global, step: usize) -> Result<String, AllocError>
     format!(in alloc; "refused step {step}\n")
 }
 
-/// The line of neighbours that don't match.
-fn clash_line(alloc: Global, fault: Fault) -> Result<String, AllocError>
-    ensures { IfOk result (λ text. string_bytes text ≡ clash_text fault) }
-{
-    let axis = axis_of(fault.axis);
-    let x = fault.x;
-    let y = fault.y;
-    format!(in alloc; "refused not valid axis {axis} at {x} {y}\n")
-}
-
 /// Neighbours that don't match.
 fn clash(alloc: Global, fault: Fault) -> CommandFault
-    ensures { IsRefusal 1 (clash_text fault) result }
+    ensures { IsRefusal 1 (not_valid_text fault) result }
 {
-    match clash_line(alloc, fault) {
+    match not_valid_line(alloc, fault) {
         Ok(line) => refused_line(line),
         Err(AllocError) => CommandFault::OutOfMemory,
     }
-}
-
-/// The coarse pattern with its shape and its cuts, the top row first.
-fn coarse_lines(alloc: Global, coarse: &Coarse) -> Result<Vec<u8>, AllocError>
-    ensures { IfOk result (λ text. text.items ≡ coarse_text coarse.now.pattern coarse.now.low_cut coarse.now.high_cut) }
-{
-    let width = coarse.pattern.width();
-    let height = coarse.pattern.height();
-    let low = bit(coarse.low_cut);
-    let high = bit(coarse.high_cut);
-    let head = format!(in alloc; "coarse {width} {height}\ncut {low} {high}\n")?;
-    let mut text = head.into_bytes();
-    push_pattern(&mut text, &coarse.pattern)?;
-    Ok(text)
 }
 
 /// A coarse pattern over a step's coarse set, bound to a name.

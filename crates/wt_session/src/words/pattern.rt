@@ -1,11 +1,12 @@
 // The word `pattern`.
-ghost use Rattle.std.specs.Prelude.{◌≡◌, ◌<◌, IfOk, string_bytes};
+ghost use Rattle.std.specs.Prelude.{◌≡◌, IfOk, string_bytes};
 ghost use Rattle.wt_session.specs.Said.{Replies};
-ghost use Rattle.wt_session.specs.Pattern.{pattern_text, stranger_text, pattern_reply};
+ghost use Rattle.wt_session.specs.Pattern.{pattern_text, pattern_reply};
 
 use crate::lookup::set_named;
 use crate::names::Names;
 use crate::reply::{Answer, CommandFault, refused_line};
+use crate::texts::stranger_line;
 use crate::value::{Sheet, Value};
 use std::alloc::{AllocError, Global};
 use wt_pattern::{Pattern, tiles_fault};
@@ -17,15 +18,6 @@ fn pattern_line(alloc: Global, p: &Pattern) -> Result<String, AllocError>
     let width = p.width();
     let height = p.height();
     format!(in alloc; "pattern {width} {height}\n")
-}
-
-fn stranger_line(alloc: Global, p: &Pattern, x: usize, y: usize) -> Result<String, AllocError>
-    requires column { x < p.now.width }
-    requires row { y < p.now.height }
-    ensures { IfOk result (λ text. string_bytes text ≡ stranger_text p.now (x, y)) }
-{
-    let tile = p.cell(x, y);
-    format!(in alloc; "refused tile {tile} at {x} {y}\n")
 }
 
 /// `pattern N S w h`: the pattern over a set, bound to a name.

@@ -3,9 +3,10 @@ ghost use Rattle.std.specs.Prelude.{◌≡◌, IfOk, string_bytes};
 ghost use Rattle.wt_tile.specs.Sets.{set_fault};
 ghost use Rattle.wt_pattern.specs.Plain.{IsPlain};
 ghost use Rattle.wt_session.specs.Said.{Replies};
-ghost use Rattle.wt_session.specs.Tiles.{tiles_text, repeated_text, IsTilesReply};
+ghost use Rattle.wt_session.specs.Tiles.{tiles_text, IsTilesReply};
 
 use crate::reply::{Answer, CommandFault, refused, refused_line};
+use crate::texts::repeated_line;
 use crate::value::Value;
 use std::alloc::{AllocError, Global};
 use wt_seq::Seq;
@@ -18,12 +19,6 @@ fn tiles_line(alloc: Global, list: &TileList) -> Result<String, AllocError>
     let first = list.names1.as_slice().len();
     let second = list.names2.as_slice().len();
     format!(in alloc; "tiles {count} colours {first} {second}\n")
-}
-
-fn repeated_line(alloc: Global, i: usize, j: usize) -> Result<String, AllocError>
-    ensures { IfOk result (λ text. string_bytes text ≡ repeated_text i j) }
-{
-    format!(in alloc; "refused repeated {i} {j}\n")
 }
 
 /// `tiles N n`: the set of n tiles, bound to a name.

@@ -1,6 +1,5 @@
 // The word `valid`.
 ghost use Rattle.std.specs.Prelude.{◌≡◌, IfOk, string_bytes};
-ghost use Rattle.wt_grid.specs.Axes.{axis_number};
 ghost use Rattle.wt_session.specs.Said.{Replies};
 ghost use Rattle.wt_session.specs.Valid.{clash_text, validity_text, valid_reply};
 
@@ -8,24 +7,14 @@ use crate::lookup::pattern_named;
 use crate::names::Names;
 use crate::reply::{Answer, CommandFault, refused};
 use std::alloc::{AllocError, Global};
+use wt_grid::axis_number;
 use wt_pattern::Fault;
 use wt_seq::Seq;
-use wt_tile::Axis;
-
-/// The number of an axis, as texts name it.
-pub fn axis_of(axis: Axis) -> u8
-    ensures { result ≡ axis_number axis }
-{
-    match axis {
-        Axis::One => 1,
-        Axis::Two => 2,
-    }
-}
 
 fn clash_line(alloc: Global, fault: Fault) -> Result<String, AllocError>
     ensures { IfOk result (λ text. string_bytes text ≡ clash_text fault) }
 {
-    let axis = axis_of(fault.axis);
+    let axis = axis_number(fault.axis);
     let x = fault.x;
     let y = fault.y;
     format!(in alloc; "fault axis {axis} at {x} {y}\n")
