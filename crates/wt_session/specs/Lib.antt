@@ -1,4 +1,6 @@
+-- The partition that a torus and its regions make, as they are read.
 pub mod Partitions
+-- A pattern that a script made, and the set that it is over.
 pub mod Sheets
 -- The names of a script: a finite map, as the list of its entries in the order of their names' bytes.
 pub mod Names
@@ -65,10 +67,15 @@ pub mod Primitive
 pub mod Seeds
 -- census C k t: how often each tile stands in what k turns of the loop make of tile t.
 pub mod Census
+-- What `torus N GA GB Ga Gb n` answers.
 pub mod Torus
+-- A partition as a text of its own: a torus with its regions, and nothing behind them.
 pub mod TorusTexts
+-- What `code N T Gx Gy w h` answers.
 pub mod Code
+-- What `induce N T A` answers.
 pub mod Induce
+-- The meaning of a command: what it answers, and what its name is bound to.
 pub mod Meaning
 -- How a command ends: what it leaves of the names and of the text.
 pub mod Ends
