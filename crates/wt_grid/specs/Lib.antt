@@ -2,6 +2,8 @@
 pub mod Axes
 -- The first answer of several.
 pub mod First
+-- Answers of calls that may fail: what is given, and by which fault they fail.
+pub mod Answers
 -- A fault that is told where a condition fails.
 pub mod Unless
 -- Lists in strict order, and what stands in them.
