@@ -6,7 +6,7 @@ mod masks;
 mod rows;
 
 pub use masks::{and_into, any, count_ones, lowest};
-pub use rows::{count_equal, first_difference};
+pub use rows::{all_below, count_equal, first_difference};
 
 #[cfg(test)]
 mod tests;

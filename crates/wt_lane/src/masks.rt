@@ -1,6 +1,6 @@
 // Masks of 256 bits: bit i stands in word i / 64, at i % 64.
 ghost use Rattle.std.specs.Prelude.{◌≡◌, ℕ, ◌<◌, ◌↔◌, length, min, IsTrue, MatchOption};
-ghost use Rattle.wt_lane.specs.Masks.{mask_bit, set_below};
+ghost use Rattle.wt_lane.specs.Masks.{mask_bit, set_below, IsEmptyMask, IsLowestBit};
 
 use std::simd::cmp::SimdPartialEq;
 use std::simd::u64x4;
@@ -45,14 +45,14 @@ fn count_ones_in(words: &[u64]) -> u32
 
 /// The least number of a bit that is set, or None where no bit is.
 pub fn lowest(a: &[u64; 4]) -> Option<u32>
-    ensures { MatchOption result ((i : ℕ) → mask_bit a.now i ≡ 0) (λ n. (n < 256) × (mask_bit a.now n ≡ 1) × ((i : ℕ) → i < n → mask_bit a.now i ≡ 0)) }
+    ensures { MatchOption result (IsEmptyMask a.now) (IsLowestBit a.now) }
 {
     lowest_in(a)
 }
 
 fn lowest_in(words: &[u64]) -> Option<u32>
     requires { length words.now ≡ 4 }
-    ensures { MatchOption result ((i : ℕ) → mask_bit words.now i ≡ 0) (λ n. (n < 256) × (mask_bit words.now n ≡ 1) × ((i : ℕ) → i < n → mask_bit words.now i ≡ 0)) }
+    ensures { MatchOption result (IsEmptyMask words.now) (IsLowestBit words.now) }
 {
     let mut start = 0u32;
     for word in words {

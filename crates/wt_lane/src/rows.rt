@@ -1,10 +1,11 @@
 // Rows of tile numbers.
-ghost use Rattle.std.specs.Prelude.{◌≡◌, ◌+◌, ◌≤◌, length, nat_eq, count_by};
+ghost use Rattle.std.specs.Prelude.{◌≡◌, ◌+◌, ◌≤◌, length, nat_eq, nat_lt, count_by};
+ghost use Rattle.std.specs.List.{list_all};
 ghost use Rattle.std.specs.Bool.{OnTrue};
 ghost use lib.Lanes.{chunk};
 ghost use Rattle.wt_lane.specs.Differs.{first_place_apart};
 
-use std::simd::cmp::SimdPartialEq;
+use std::simd::cmp::{SimdPartialEq, SimdPartialOrd};
 use std::simd::u16x8;
 
 /// The first place where two rows of one length differ, or None where they are equal.
@@ -62,4 +63,33 @@ fn count_equal_in(row: &[u16], value: u16, at: usize) -> usize
 {
     let x = u16x8::from_slice(&row[at..]);
     x.simd_eq(u16x8::splat(value)).to_bitmask().count_ones() as usize
+}
+
+/// Whether all numbers of a row are below a bound.
+pub fn all_below(row: &[u16], bound: u16) -> bool
+    ensures { result ≡ list_all (λ x. nat_lt x bound) row.now }
+{
+    let mut at = 0usize;
+    while row.len() - at >= 8 {
+        if !all_below_in(row, bound, at) {
+            return false;
+        }
+        at += 8;
+    }
+    while at < row.len() {
+        if row[at] >= bound {
+            return false;
+        }
+        at += 1;
+    }
+    true
+}
+
+// Whether the eight numbers from a place on are below a bound.
+fn all_below_in(row: &[u16], bound: u16, at: usize) -> bool
+    requires { at + 8 ≤ length row.now }
+    ensures { result ≡ list_all (λ x. nat_lt x bound) (chunk at 8 row.now) }
+{
+    let x = u16x8::from_slice(&row[at..]);
+    x.simd_ge(u16x8::splat(bound)).to_bitmask() == 0
 }

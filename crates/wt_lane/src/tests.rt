@@ -1,5 +1,5 @@
 // Rows and masks whose answers are known.
-use crate::{and_into, any, count_equal, count_ones, first_difference, lowest};
+use crate::{all_below, and_into, any, count_equal, count_ones, first_difference, lowest};
 
 #[test]
 fn rows_of_37_differ_at_the_last(rt: HostRuntime) {
@@ -9,6 +9,8 @@ fn rows_of_37_differ_at_the_last(rt: HostRuntime) {
     assert_eq!(rt; first_difference(&a, &b), Some(36));
     assert_eq!(rt; first_difference(&[], &[]), None);
     assert_eq!(rt; count_equal(&b, 7), 36);
+    assert!(rt; all_below(&b, 9));
+    assert!(rt; !all_below(&b, 8));
 }
 
 #[test]
