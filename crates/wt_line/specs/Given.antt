@@ -1,6 +1,6 @@
 -- How values of the code stand for what is read.
-use Rattle.std.specs.Prelude.{ℕ, ◌^◌, ◌-◌, min, ◌+◌, ◌++◌, length, Bool, true, false, List, [], ◌∷◌, Option, None, Some, Result, Ok, Err}
-use Rattle.wt_text.specs.Words.{tokens}
+use Rattle.std.specs.Prelude.{ℕ, ◌^◌, ◌-◌, min, ◌+◌, ◌++◌, length, Bool, true, false, List, [], ◌∷◌, Option, None, Some, Result, Ok, Err, option_map}
+use Rattle.wt_text.specs.Words.{tokens, number}
 
 -- the tokens that are left
 abbrev pub left : Bool → List ℕ → List (List ℕ)
@@ -11,6 +11,11 @@ left false line = []
 abbrev pub held : Option ℕ → Option ℕ
 held None = None
 held (Some n) = Some (min n (2 ^ 64 - 1))
+
+-- the number that the first token spells, saturating at the last value of u64, and the tokens behind it
+abbrev pub held_number : List (List ℕ) → Option (ℕ × List (List ℕ))
+held_number [] = None
+held_number (t ∷ ts) = option_map (λ n. (n, ts)) (held (number t))
 
 -- more than the bytes that are left
 abbrev pub room : Bool → List ℕ → ℕ
