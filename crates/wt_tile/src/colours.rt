@@ -1,6 +1,6 @@
 // Colours of fused edges, numbered by first coming.
 ghost use Rattle.std.specs.Prelude.{◌≡◌, ◌++◌, ◌∷◌, [], Some, IfOk, OnOk, OnErr, IsErrOf, ◌↔◌, Contains, IsTrue, length, slice_get};
-ghost use Rattle.wt_tile.specs.Colours.{IsNumbering};
+ghost use Rattle.wt_tile.specs.Colours.{IsNumbering, IsPast};
 
 use crate::Edge;
 use indexmap::IndexSet;
@@ -59,7 +59,7 @@ impl Colours {
         ensures held { Contains self.old edge → OnOk result (self.new ≡ self.old) }
         ensures added { (Contains self.old edge → ⊥) → OnOk result (self.new ≡ self.old ++ edge ∷ []) }
         ensures numbering { IsNumbering self.new }
-        ensures too_many { IsErrOf result ColourFault.TooMany ↔ ((length self.old ≡ MAX_COLOURS) × (Contains self.old edge → ⊥)) }
+        ensures too_many { IsErrOf result ColourFault.TooMany ↔ IsPast self.old edge }
         ensures unchanged { OnErr result (self.new ≡ self.old) }
     {
         if self.is_past(edge) {
@@ -73,7 +73,7 @@ impl Colours {
 
     /// Whether the edge is new and no more are taken.
     fn is_past(&self, edge: Edge) -> bool
-        ensures { IsTrue result ↔ ((length self.now ≡ MAX_COLOURS) × (Contains self.now edge → ⊥)) }
+        ensures { IsTrue result ↔ IsPast self.now edge }
     {
         self.edges.len() == MAX_COLOURS && !self.edges.contains(&edge)
     }

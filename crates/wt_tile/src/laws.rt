@@ -1,8 +1,8 @@
 // What sets and numbers of colours mean, as theorems: each is the contract of a function that does nothing.
-ghost use Rattle.std.specs.Prelude.{◌≡◌, ℕ, List, None, Some, slice_get, ◌↔◌};
+ghost use Rattle.std.specs.Prelude.{◌≡◌, ℕ, List, None, ◌↔◌};
 ghost use Rattle.wt_tile.specs.declared.tile.TileList.{TileList};
 ghost use Rattle.wt_tile.specs.declared.fusion.Edge.{Edge};
-ghost use Rattle.wt_tile.specs.Colours.{IsNumbering};
+ghost use Rattle.wt_tile.specs.Colours.{IsNumbering, HasNumber};
 ghost use Rattle.wt_tile.specs.Sets.{IsTileSet};
 ghost use Rattle.wt_tile.specs.Sets as spec;
 
@@ -14,5 +14,6 @@ pub fn tile_sets()
 
 /// Numbers of edges are equal exactly where the edges are.
 pub fn numbers_tell_edges()
-    ensures { (edges : List Edge) (i j : ℕ) (a b : Edge) → IsNumbering edges → slice_get edges i ≡ Some a → slice_get edges j ≡ Some b → (i ≡ j) ↔ (a ≡ b) }
+    ensures { (edges : List Edge) (i j : ℕ) (a b : Edge) → IsNumbering edges
+        → HasNumber edges a i → HasNumber edges b j → (i ≡ j) ↔ (a ≡ b) }
 {}

@@ -1,7 +1,8 @@
 // Tile sets: lists of tiles that have no fault.
-ghost use Rattle.std.specs.Prelude.{◌≡◌, ◌<◌, ◌≤◌, length, None, Some, IfOk, MatchResult};
+ghost use Rattle.std.specs.Prelude.{◌≡◌, ◌<◌, ◌≤◌, length, None, Some, IfOk};
 ghost use Rattle.wt_tile.specs.Sets as sets;
 ghost use Rattle.wt_tile.specs.Matching as matching_words;
+ghost use Rattle.wt_grid.specs.Answers.{TakesUnless, FailsBy};
 
 use crate::checks::{are_apart, colour_fault, count_colours1, count_colours2, repeated};
 use crate::matching::{is_match, tile_at};
@@ -68,7 +69,8 @@ pub fn set_fault(list: &TileList) -> Option<SetFault>
 impl<'a> SetRef<'a> {
     /// The list as a tile set, or its first fault. Takes no memory.
     pub fn new(list: &'a TileList) -> Result<SetRef<'a>, SetFault>
-        ensures { MatchResult result (λ set. (set.list.now ≡ list.now) × (sets.set_fault list.now ≡ None)) (λ fault. sets.set_fault list.now ≡ Some fault) }
+        ensures same { IfOk result (λ set. set.list.now ≡ list.now) }
+        ensures fault { FailsBy result (sets.set_fault list.now) }
     {
         match set_fault(list) {
             None => Ok(SetRef { list }),
@@ -142,7 +144,7 @@ impl<'a> SetRef<'a> {
 impl TileSet {
     /// The set of this list, or the list and its first fault. Takes no memory.
     pub fn new(list: TileList) -> Result<TileSet, (TileList, SetFault)>
-        ensures { MatchResult result (λ set. (set ≡ list) × (sets.set_fault list ≡ None)) (λ e. (e.0 ≡ list) × (sets.set_fault list ≡ Some e.1)) }
+        ensures { TakesUnless result list (sets.set_fault list) }
     {
         match set_fault(&list) {
             None => Ok(TileSet { list }),
