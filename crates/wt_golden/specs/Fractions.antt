@@ -1,5 +1,6 @@
 -- The numbers of Q(√5): (a + b φ) / d with whole a, b and d, where d is above 0; lowest terms, arithmetic and order.
-use Rattle.std.specs.Prelude.{◌≡◌, ℕ, zero, suc, ◌%◌, ◌<◌, ◌^◌, ℤ, pos, ◌*ℤ◌, ◌<ℤ◌, neg_ℤ, int_div, int_lt, if◌then◌else◌, unsigned_abs, List, [], ◌∷◌}
+use Rattle.std.specs.Prelude.{◌≡◌, ℕ, zero, suc, ◌%◌, ◌<◌, ◌^◌, ℤ, pos, ◌*ℤ◌, ◌<ℤ◌, neg_ℤ, int_div, int_lt, if◌then◌else◌, unsigned_abs, List, [], ◌∷◌, Result, MatchResult}
+use Rattle.std.specs.Int.{◌∣◌}
 use Rattle.std.specs.declared.cmp.Ordering.{Ordering}
 use Rattle.wt_golden.specs.Whole.{Whole, plus, minus, times, opposite, whole, sign, IsPositive}
 
@@ -91,3 +92,19 @@ pub record IsGolden (f : Fraction) : Type 0 where
   pub divisor : pos 0 <ℤ f.d
   pub lowest : lowest f ≡ f
   pub within : IsWithin f
+
+-- the call gives the number in lowest terms, and fails exactly where that is out of limit
+abbrev pub GivesLowest : {E : Type 0} → Result Fraction E → Fraction → Type 0
+GivesLowest result f = MatchResult result (λ g. (g ≡ lowest f) × IsGolden g) (λ _. IsWithin (lowest f) → ⊥)
+
+-- k divides all three numbers
+pub record DividesAll (k : ℕ) (f : Fraction) : Type 0 where
+  pub a : k ∣ unsigned_abs f.a
+  pub b : k ∣ unsigned_abs f.b
+  pub d : k ∣ unsigned_abs f.d
+
+-- two spellings of one number, both with d above 0
+pub record AreSpellings (f g : Fraction) : Type 0 where
+  pub first : pos 0 <ℤ f.d
+  pub second : pos 0 <ℤ g.d
+  pub same : IsSameNumber f g

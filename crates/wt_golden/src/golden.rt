@@ -1,6 +1,6 @@
 //! The numbers of Q(√5) in lowest terms.
-ghost use Rattle.std.specs.Prelude.{◌≡◌, ◌^◌, ◌<◌, ◌≤◌, ◌<ℤ◌, ◌*ℤ◌, ◌↔◌, pos, unsigned_abs, IsTrue, IfOk, IsErrOf, MatchResult};
-ghost use Rattle.wt_golden.specs.Fractions.{lowest, upright, sum, negative, difference, order, limit, IsWithin, IsGolden};
+ghost use Rattle.std.specs.Prelude.{◌≡◌, ◌^◌, ◌<◌, ◌≤◌, ◌<ℤ◌, ◌*ℤ◌, ◌↔◌, pos, unsigned_abs, IsTrue, IfOk, IsErrOf};
+ghost use Rattle.wt_golden.specs.Fractions.{lowest, upright, sum, negative, difference, order, limit, IsWithin, IsGolden, GivesLowest};
 ghost use Rattle.wt_golden.specs.Fractions as fractions;
 ghost use Rattle.wt_golden.specs.Sizes.{IsBelow};
 ghost use Rattle.wt_golden.specs.Whole.{whole};
@@ -89,9 +89,7 @@ impl Golden {
     pub fn over(f: Parts) -> Result<Golden, TooLarge>
         requires divisor { pos 0 <ℤ f.d }
         requires small { unsigned_abs f.d ≤ 2 ^ 126 }
-        ensures { MatchResult result
-            (λ g. (g ≡ lowest (fraction f)) × IsGolden g)
-            (λ _. IsWithin (lowest (fraction f)) → ⊥) }
+        ensures { GivesLowest result (fraction f) }
     {
         let parts = lowest_parts(f);
         if are_small(parts) {
@@ -158,27 +156,21 @@ impl Golden {
 
     /// The sum, exactly, or `TooLarge` exactly where it is out of limit in lowest terms.
     pub fn add(self, o: Golden) -> Result<Golden, TooLarge>
-        ensures { MatchResult result
-            (λ g. (g ≡ lowest (sum self o)) × IsGolden g)
-            (λ _. IsWithin (lowest (sum self o)) → ⊥) }
+        ensures { GivesLowest result (sum self o) }
     {
         Golden::over(sum_parts(self, o))
     }
 
     /// The difference, exactly, or `TooLarge` exactly where it is out of limit in lowest terms.
     pub fn sub(self, o: Golden) -> Result<Golden, TooLarge>
-        ensures { MatchResult result
-            (λ g. (g ≡ lowest (difference self o)) × IsGolden g)
-            (λ _. IsWithin (lowest (difference self o)) → ⊥) }
+        ensures { GivesLowest result (difference self o) }
     {
         Golden::over(difference_parts(self, o))
     }
 
     /// The product, exactly, or `TooLarge` exactly where it is out of limit in lowest terms.
     pub fn mul(self, o: Golden) -> Result<Golden, TooLarge>
-        ensures { MatchResult result
-            (λ g. (g ≡ lowest (fractions.product self o)) × IsGolden g)
-            (λ _. IsWithin (lowest (fractions.product self o)) → ⊥) }
+        ensures { GivesLowest result (fractions.product self o) }
     {
         Golden::over(product_parts(self, o))
     }

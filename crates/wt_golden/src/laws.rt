@@ -1,10 +1,9 @@
 //! What the definitions mean, as theorems: each is the contract of a function that does nothing.
-ghost use Rattle.std.specs.Prelude.{◌≡◌, ◌↔◌, ℕ, ℤ, pos, ◌<ℤ◌, unsigned_abs};
-ghost use Rattle.std.specs.Int.{◌∣◌};
+ghost use Rattle.std.specs.Prelude.{◌≡◌, ◌↔◌, ℕ, ℤ, pos, ◌<ℤ◌};
 ghost use Rattle.std.specs.Ordering.{MatchOrdering};
 ghost use Rattle.std.specs.declared.cmp.Ordering.{Ordering};
 ghost use Rattle.wt_golden.specs.Whole.{Whole, whole, phi, plus, times, opposite, sign, IsPositive};
-ghost use Rattle.wt_golden.specs.Fractions.{Fraction, top, lowest, sum, product, order, nought, IsSameNumber, IsGreater};
+ghost use Rattle.wt_golden.specs.Fractions.{Fraction, top, lowest, sum, product, order, nought, IsSameNumber, IsGreater, DividesAll, AreSpellings};
 
 /// The whole golden numbers are a commutative ring with the whole numbers in it, and φ² = φ + 1.
 pub fn golden_ring()
@@ -38,8 +37,7 @@ pub fn golden_order()
 pub fn lowest_terms()
     ensures same { (f : Fraction) → pos 0 <ℤ f.d → IsSameNumber (lowest f) f }
     ensures above { (f : Fraction) → pos 0 <ℤ f.d → pos 0 <ℤ (lowest f).d }
-    ensures apart { (f : Fraction) (k : ℕ) → pos 0 <ℤ f.d
-        → k ∣ unsigned_abs (lowest f).a → k ∣ unsigned_abs (lowest f).b → k ∣ unsigned_abs (lowest f).d → k ≡ 1 }
+    ensures apart { (f : Fraction) (k : ℕ) → pos 0 <ℤ f.d → DividesAll k (lowest f) → k ≡ 1 }
     ensures one { (f g : Fraction) → pos 0 <ℤ f.d → pos 0 <ℤ g.d → IsSameNumber f g → lowest f ≡ lowest g }
 {}
 
@@ -61,6 +59,5 @@ pub fn fraction_order()
 pub fn spellings_are_one_number()
     ensures sums { (f g h k : Fraction) → IsSameNumber f h → IsSameNumber g k → IsSameNumber (sum f g) (sum h k) }
     ensures products { (f g h k : Fraction) → IsSameNumber f h → IsSameNumber g k → IsSameNumber (product f g) (product h k) }
-    ensures orders { (f g h k : Fraction) → pos 0 <ℤ f.d → pos 0 <ℤ g.d → pos 0 <ℤ h.d → pos 0 <ℤ k.d
-        → IsSameNumber f h → IsSameNumber g k → order f g ≡ order h k }
+    ensures orders { (f g h k : Fraction) → AreSpellings f h → AreSpellings g k → order f g ≡ order h k }
 {}
