@@ -1,5 +1,5 @@
 -- Points over Q(√5), half-planes p x + q y + r > 0 with whole golden p, q and r, and which points lie in them.
-use Rattle.std.specs.Prelude.{◌≡◌, ℕ, ◌≤◌, ◌^◌, ◌-◌, ℤ, pos, ◌*ℤ◌, ◌<ℤ◌, int_div, unsigned_abs, List, [], ◌∷◌}
+use Rattle.std.specs.Prelude.{◌≡◌, ℕ, ◌≤◌, ◌^◌, ◌-◌, ℤ, pos, ◌*ℤ◌, ◌<ℤ◌, int_div, unsigned_abs, List, [], ◌∷◌, Result, MatchResult}
 use Rattle.wt_golden.specs.Whole.{Whole, plus, times, opposite, whole, IsPositive}
 use Rattle.wt_golden.specs.Fractions.{Fraction, top, over, lowest, common_of}
 use Rattle.wt_golden.specs.Sizes.{IsBelow}
@@ -141,3 +141,15 @@ moved_half h tx ty = let d = times (whole tx.d) (whole ty.d) in record {
 -- the half-plane (p0 + p1 φ) x + (q0 + q1 φ) y + (r0 + r1 φ) > 0, as it is written
 abbrev pub raw_half : ℤ → ℤ → ℤ → ℤ → ℤ → ℤ → Half
 raw_half p0 p1 q0 q1 r0 r1 = record { p = record { a = p0; b = p1 }; q = record { a = q0; b = q1 }; r = record { a = r0; b = r1 } }
+
+-- the half-plane p x + q y + r > 0
+abbrev pub half_of : Whole → Whole → Whole → Half
+half_of p q r = record { p = p; q = q; r = r }
+
+-- the call gives the half-plane without a common divisor, and fails exactly where that is out of limit
+abbrev pub GivesHalfPlane : {E : Type 0} → Result Half E → Half → Type 0
+GivesHalfPlane result h = MatchResult result (λ g. (g ≡ reduced_half h) × IsHalfPlane g) (λ _. IsSmallHalf (reduced_half h) → ⊥)
+
+-- the call gives the point over its least common denominator, and fails exactly where that is out of limit
+abbrev pub GivesPoint : {E : Type 0} → Result Spot E → Spot → Type 0
+GivesPoint result z = MatchResult result (λ y. (y ≡ reduced_spot z) × IsPoint y) (λ _. IsSmallSpot (reduced_spot z) → ⊥)

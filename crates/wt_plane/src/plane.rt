@@ -1,11 +1,11 @@
 //! Half-planes p x + q y + r > 0 with whole golden p, q and r.
-ghost use Rattle.std.specs.Prelude.{◌≡◌, ◌^◌, ◌-◌, ◌<◌, ◌≤◌, ◌↔◌, IsTrue, MatchResult, [], ◌∷◌, neg_ℤ, pos, unsigned_abs, IfOk, IsErrOf};
+ghost use Rattle.std.specs.Prelude.{◌≡◌, ◌^◌, ◌-◌, ◌<◌, ◌≤◌, ◌↔◌, IsTrue, [], ◌∷◌, neg_ℤ, pos, unsigned_abs, IfOk, IsErrOf};
 ghost use Rattle.wt_golden.specs.Sizes.{IsBelow};
 ghost use Rattle.wt_golden.specs.Fractions.{common_of};
 ghost use Rattle.wt_plane.specs.Six.{half};
 ghost use Rattle.wt_golden.specs.Whole.{whole, plus, times, IsPositive};
 ghost use Rattle.wt_golden.specs.Wide.{number};
-ghost use Rattle.wt_plane.specs.HalfPlanes.{numbers_of, HasDirection, half_limit, opposite_half, divided_half, reduced_half, moved_half, raw_half, shifted, Spot, Holds, IsSmallHalf, IsHalfPlane};
+ghost use Rattle.wt_plane.specs.HalfPlanes.{numbers_of, HasDirection, half_limit, opposite_half, divided_half, reduced_half, moved_half, raw_half, shifted, Spot, Holds, IsSmallHalf, IsHalfPlane, half_of, GivesHalfPlane};
 ghost use Rattle.wt_plane.specs.HalfPlanes as spec;
 
 use std::marker::Model;
@@ -123,9 +123,7 @@ fn lowest_half(s: Six) -> Result<HalfPlane, TooLarge>
     requires direction { HasDirection (half s) }
     requires p { IsBelow (half s).p (2 ^ 126) }
     requires q { IsBelow (half s).q (2 ^ 126) }
-    ensures { MatchResult result
-        (λ h. (h ≡ reduced_half (half s)) × IsHalfPlane h)
-        (λ _. IsSmallHalf (reduced_half (half s)) → ⊥) }
+    ensures { GivesHalfPlane result (half s) }
 {
     let kept = reduced_six(s);
     if are_small(kept) {
@@ -232,12 +230,10 @@ impl HalfPlane {
     /// The half-plane p x + q y + r > 0, divided by the common divisor, or `TooLarge` exactly where a number, so divided,
     /// isn't below 2^18 in absolute value.
     pub fn of(p: Wide, q: Wide, r: Wide) -> Result<HalfPlane, TooLarge>
-        requires direction { HasDirection (record { p = number p; q = number q; r = number r }) }
+        requires direction { HasDirection (half_of (number p) (number q) (number r)) }
         requires p { IsBelow (number p) (2 ^ 126) }
         requires q { IsBelow (number q) (2 ^ 126) }
-        ensures { MatchResult result
-            (λ h. (h ≡ reduced_half (record { p = number p; q = number q; r = number r })) × IsHalfPlane h)
-            (λ _. IsSmallHalf (reduced_half (record { p = number p; q = number q; r = number r })) → ⊥) }
+        ensures { GivesHalfPlane result (half_of (number p) (number q) (number r)) }
     {
         lowest_half(Six { p, q, r })
     }
@@ -245,9 +241,7 @@ impl HalfPlane {
     /// The half-plane that holds at z exactly where this one holds at z + (tx, ty). `TooLarge` exactly where its six
     /// numbers, made whole and divided by their common divisor, aren't all below 2^18 in absolute value.
     pub fn moved(self, tx: Golden, ty: Golden) -> Result<HalfPlane, TooLarge>
-        ensures exact { MatchResult result
-            (λ h. (h ≡ reduced_half (moved_half self tx ty)) × IsHalfPlane h)
-            (λ _. IsSmallHalf (reduced_half (moved_half self tx ty)) → ⊥) }
+        ensures exact { GivesHalfPlane result (moved_half self tx ty) }
         ensures points { IfOk result (λ h. (z : Spot) → Holds h z ↔ Holds self (shifted z tx ty)) }
     {
         self.half_plane();

@@ -1,11 +1,11 @@
 //! Points over Q(√5), over the least common denominator of their coordinates.
-ghost use Rattle.std.specs.Prelude.{◌≡◌, ◌<◌, ◌≤◌, ◌^◌, ◌<ℤ◌, ◌↔◌, pos, unsigned_abs, IsTrue, IfOk, MatchResult};
+ghost use Rattle.std.specs.Prelude.{◌≡◌, ◌<◌, ◌≤◌, ◌^◌, ◌<ℤ◌, ◌↔◌, pos, unsigned_abs, IsTrue, IfOk};
 ghost use Rattle.wt_golden.specs.Sizes.{IsBelow};
 ghost use Rattle.wt_golden.specs.Whole.{whole};
 ghost use Rattle.wt_golden.specs.Fractions.{common_of};
 ghost use Rattle.wt_plane.specs.Five.{point};
 ghost use Rattle.wt_golden.specs.Wide.{number};
-ghost use Rattle.wt_plane.specs.HalfPlanes.{IsSpot, IsPoint, spot_limit, IsSmallSpot, spot, spot_numbers, divided_spot, reduced_spot, x_of, y_of};
+ghost use Rattle.wt_plane.specs.HalfPlanes.{IsSpot, IsPoint, spot_limit, IsSmallSpot, spot, spot_numbers, divided_spot, reduced_spot, x_of, y_of, GivesPoint};
 
 use crate::plane::divided_pair;
 use std::marker::Model;
@@ -100,9 +100,7 @@ fn reduced_five(s: Five) -> Five
 fn lowest_point(s: Five) -> Result<Point, TooLarge>
     requires divisor { pos 0 <ℤ s.d }
     requires small { unsigned_abs s.d ≤ 2 ^ 126 }
-    ensures { MatchResult result
-        (λ z. (z ≡ reduced_spot (point s)) × IsPoint z)
-        (λ _. IsSmallSpot (reduced_spot (point s)) → ⊥) }
+    ensures { GivesPoint result (point s) }
 {
     let kept = reduced_five(s);
     if are_small(kept) {
@@ -134,9 +132,7 @@ impl Point {
     /// The point (x, y), over the least common denominator. `TooLarge` exactly where a number over it isn't below 2^30 in
     /// absolute value.
     pub fn new(x: Golden, y: Golden) -> Result<Point, TooLarge>
-        ensures exact { MatchResult result
-            (λ z. (z ≡ reduced_spot (spot x y)) × IsPoint z)
-            (λ _. IsSmallSpot (reduced_spot (spot x y)) → ⊥) }
+        ensures exact { GivesPoint result (spot x y) }
         ensures coordinates { IfOk result (λ z. (x_of z ≡ x) × (y_of z ≡ y)) }
     {
         x.golden();
