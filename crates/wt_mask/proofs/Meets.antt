@@ -24,17 +24,21 @@ off : (x b : Bool) → b ≡ false → bit (x && b) ≡ 0
 off true b e = rw e refl
 off false b e = refl
 
--- where there is no bit, none of the first 0 tiles is missed
-pub met_none : (ts : List Tile) (way : Way) (colour : ℕ) → colour < MAX_COLOURS → IsMet ts way 0 colour (mask_at (replicate MAX_COLOURS (replicate 4 0)) colour)
-met_none ts way colour lt u =
-    let here : mask_at (replicate MAX_COLOURS (replicate 4 0)) colour ≡ replicate 4 0 = get_or-replicate MAX_COLOURS colour (replicate 4 0) [] lt in
+-- masks that nothing was added to
+pub blank_bit : (n a u : ℕ) → a < n → mask_bit (mask_at (replicate n (replicate 4 0)) a) u ≡ 0
+blank_bit n a u lt =
+    let here : mask_at (replicate n (replicate 4 0)) a ≡ replicate 4 0 = get_or-replicate n a (replicate 4 0) [] lt in
     let word : get_or (replicate {A = ℕ} 4 0) (u / 64) 0 ≡ 0 = elim (cases_lt (u / 64) 4) [
       | inl low ↦ get_or-replicate 4 (u / 64) 0 0 low
       | inr high ↦ get_or_past (replicate {A = ℕ} 4 0) (u / 64) 0 (omega (arith, length-replicate {A = ℕ} 4 0))
     ] in
-    let none : nat_lt u 0 ≡ false = grind (arith, nat_tests) in
     ap (λ (k : List ℕ). mask_bit k u) here ∙ no_bit (get_or (replicate {A = ℕ} 4 0) (u / 64) 0) (u % 64) word
-    ∙ sym (ap (λ (b : Bool). bit (b && nat_eq colour (turned way (tile_at ts u)))) none)
+
+-- where there is no bit, none of the first 0 tiles is missed
+pub met_none : (ts : List Tile) (way : Way) (colour : ℕ) → colour < MAX_COLOURS → IsMet ts way 0 colour (mask_at (replicate MAX_COLOURS (replicate 4 0)) colour)
+met_none ts way colour lt u =
+    let none : nat_lt u 0 ≡ false = grind (arith, nat_tests) in
+    blank_bit MAX_COLOURS colour u lt ∙ sym (ap (λ (b : Bool). bit (b && nat_eq colour (turned way (tile_at ts u)))) none)
 
 module _ (ts : List Tile) (way : Way) (n : ℕ) where
   -- the mask of the tile's colour has one bit more

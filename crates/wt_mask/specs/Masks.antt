@@ -1,10 +1,12 @@
 -- Masks of tiles: a bit for each, 256 in all.
-use Rattle.std.specs.Prelude.{◌≡◌, ℕ, ◌<◌, Bool, true, false, ◌&&◌, nat_eq, nat_lt, List, [], length, slice_index_or}
+use Rattle.std.specs.Prelude.{◌≡◌, ℕ, ◌<◌, ◌≤◌, Bool, true, false, ◌&&◌, nat_eq, nat_lt, List, [], length, slice_index_or}
+use Rattle.std.specs.List.{list_any}
 use Rattle.wt_grid.specs.declared.axis.Axis.TheVariants.{One, Two}
 use Rattle.wt_tile.specs.declared.tile.Tile.{Tile}
 use Rattle.wt_tile.specs.Matching.{matches, ahead, behind, tile_at}
 use Rattle.wt_lane.specs.Masks.{mask_bit}
-use Rattle.wt_grid.specs.declared.limits.TheConstants.{MAX_COLOURS}
+use Rattle.wt_grid.specs.Pairs.{is_this_pair}
+use Rattle.wt_grid.specs.declared.limits.TheConstants.{MAX_COLOURS, MAX_TILES}
 use Rattle.wt_mask.specs.declared.sides.Way.{Way}
 use Rattle.wt_mask.specs.declared.sides.Way.TheVariants.{Right, Left, Up, Down}
 
@@ -16,6 +18,18 @@ bit false = 0
 -- the mask of a cell, or of a colour
 abbrev pub mask_at : List (List ℕ) → ℕ → List ℕ
 mask_at masks k = slice_index_or masks k []
+
+-- no bit of the mask is set from a number on
+abbrev pub IsEmptyFrom : ℕ → List ℕ → Type 0
+IsEmptyFrom from a = (i : ℕ) → from ≤ i → mask_bit a i ≡ 0
+
+-- bit n is the first of the mask that is set from a number on
+abbrev pub IsNextBit : ℕ → List ℕ → ℕ → Type 0
+IsNextBit from a n = (from ≤ n) × (n < 256) × (mask_bit a n ≡ 1) × ((i : ℕ) → from ≤ i → i < n → mask_bit a i ≡ 0)
+
+-- the mask has the second tiles of those of the pairs whose first tile is a
+abbrev pub IsRow : List (ℕ × ℕ) → ℕ → List ℕ → Type 0
+IsRow pairs a mask = (b : ℕ) → b < MAX_TILES → mask_bit mask b ≡ bit (list_any (is_this_pair a b) pairs)
 
 -- tile u may stand beside tile t, on this side of it
 abbrev pub may_stand : List Tile → Way → ℕ → ℕ → Bool

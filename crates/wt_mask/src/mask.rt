@@ -1,6 +1,7 @@
 //! Masks of 256 bits, a bit for each tile.
-ghost use Rattle.std.specs.Prelude.{◌≡◌, ℕ, ◌*◌, ◌<◌, ◌≤◌, max, MatchOption, length, nat_eq, if◌then◌else◌};
+ghost use Rattle.std.specs.Prelude.{◌≡◌, ℕ, ◌*◌, ◌<◌, ◌≤◌, max, MatchOption, length, not, nat_eq, if◌then◌else◌};
 ghost use Rattle.wt_lane.specs.Masks.{mask_bit};
+ghost use Rattle.wt_mask.specs.Masks.{bit, IsEmptyFrom, IsNextBit};
 
 use std::simd::u64x4;
 
@@ -39,20 +40,23 @@ pub fn join_into(a: &mut [u64; 4], b: &[u64; 4])
     *a = (u64x4::from_array(*a) | u64x4::from_array(*b)).to_array();
 }
 
+/// Makes of a mask the bits in which it differs from another.
+pub fn differ_into(a: &mut [u64; 4], b: &[u64; 4])
+    ensures { (i : ℕ) → mask_bit a.new i ≡ bit (not (nat_eq (mask_bit a.old i) (mask_bit b.now i))) }
+{
+    *a = (u64x4::from_array(*a) ^ u64x4::from_array(*b)).to_array();
+}
+
 /// The least bit from a number on that is set.
 pub fn next_bit(mask: &[u64; 4], from: usize) -> Option<usize>
-    ensures { MatchOption result
-        ((i : ℕ) → from ≤ i → mask_bit mask.now i ≡ 0)
-        (λ n. (from ≤ n) × (n < 256) × (mask_bit mask.now n ≡ 1) × ((i : ℕ) → from ≤ i → i < n → mask_bit mask.now i ≡ 0)) }
+    ensures { MatchOption result (IsEmptyFrom from mask.now) (IsNextBit from mask.now) }
 {
     next_bit_in(mask, from)
 }
 
 fn next_bit_in(words: &[u64], from: usize) -> Option<usize>
     requires { length words.now ≡ 4 }
-    ensures { MatchOption result
-        ((i : ℕ) → from ≤ i → mask_bit words.now i ≡ 0)
-        (λ n. (from ≤ n) × (n < 256) × (mask_bit words.now n ≡ 1) × ((i : ℕ) → from ≤ i → i < n → mask_bit words.now i ≡ 0)) }
+    ensures { MatchOption result (IsEmptyFrom from words.now) (IsNextBit from words.now) }
 {
     if from >= 256 {
         return None;
@@ -67,9 +71,7 @@ fn next_bit_in(words: &[u64], from: usize) -> Option<usize>
 
 fn next_word(words: &[u64], first: usize) -> Option<usize>
     requires { length words.now ≡ 4 }
-    ensures { MatchOption result
-        ((i : ℕ) → 64 * first ≤ i → mask_bit words.now i ≡ 0)
-        (λ n. (64 * first ≤ n) × (n < 256) × (mask_bit words.now n ≡ 1) × ((i : ℕ) → 64 * first ≤ i → i < n → mask_bit words.now i ≡ 0)) }
+    ensures { MatchOption result (IsEmptyFrom (64 * first) words.now) (IsNextBit (64 * first) words.now) }
 {
     for word in first..4 {
         if words[word] != 0 {
