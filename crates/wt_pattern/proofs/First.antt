@@ -34,11 +34,3 @@ mapped f passes make i (suc n) h = by (passes i) refl (mapped f passes make (i +
     by : (b : Bool) → passes i ≡ b → first_from f (i + 1) n ≡ option_map make (first_from (flagged passes) (i + 1) n) → first_from f i (suc n) ≡ option_map make (first_from (flagged passes) i (suc n))
     by true p rest = let here : f i ≡ Some (make i) = rw p at (h i (omega arith) (omega arith)) in rw (here, p) refl
     by false p rest = let here : f i ≡ None = rw p at (h i (omega arith) (omega arith)) in rw (here, p) rest
-
-pub place_within : (passes : ℕ → Bool) (i n k : ℕ) → first_from (flagged passes) i n ≡ Some k → i ≤ k
-place_within passes i zero k e = absurd (cc)
-place_within passes i (suc n) k e = by (passes i) refl (λ h. place_within passes (i + 1) n k h)
-  where
-    by : (b : Bool) → passes i ≡ b → (first_from (flagged passes) (i + 1) n ≡ Some k → i + 1 ≤ k) → i ≤ k
-    by true p rest = let h : Some i ≡ Some k = rw p at e in let s : i ≡ k = cc in omega arith
-    by false p rest = let h : first_from (flagged passes) (i + 1) n ≡ Some k = rw p at e in let r = rest h in omega arith

@@ -1,34 +1,9 @@
 -- The first place where two lines differ, found piece by piece.
-use Rattle.std.proofs.Common.{arith, ◌≡◌, ℕ, zero, suc, ◌+◌, ◌<◌, List, [], ◌∷◌, take, drop, length, get_or, None, Some, Bool, true, false, not, nat_eq, refl, ap, ◌∙◌, add-zero}
+use Rattle.std.proofs.Common.{arith, ◌≡◌, ℕ, suc, ◌+◌, ◌<◌, List, [], ◌∷◌, length, get_or, Some, Bool, true, false, not, nat_eq, refl, ap, ◌∙◌}
 use Rattle.std.specs.Option.{option_map}
 use Rattle.wt_lane.specs.Differs.{first_place_apart}
 use Rattle.wt_grid.specs.First.{first_from}
 use Rattle.wt_pattern.specs.Rows.{flagged}
-
--- a place in the front is the place of all
-pub found : (n i : ℕ) (xs ys : List ℕ) (k : ℕ) → first_place_apart i (take n xs) (take n ys) ≡ Some k → first_place_apart i xs ys ≡ Some k
-found zero i xs ys k e = absurd (cc)
-found (suc n) i [] ys k e = absurd (cc)
-found (suc n) i (x ∷ xs) [] k e = absurd (cc)
-found (suc n) i (x ∷ xs) (y ∷ ys) k e = by (nat_eq x y) refl (λ h. found n (i + 1) xs ys k h)
-  where
-    by : (b : Bool) → nat_eq x y ≡ b → (first_place_apart (i + 1) (take n xs) (take n ys) ≡ Some k → first_place_apart (i + 1) xs ys ≡ Some k) → first_place_apart i (x ∷ xs) (y ∷ ys) ≡ Some k
-    by true p rest = rw p (rest (rw p at e))
-    by false p rest = rw p (rw p at e)
-
--- where the front agrees, the rest decides
-pub skip : (n i : ℕ) (xs ys : List ℕ) → length xs ≡ length ys → first_place_apart i (take n xs) (take n ys) ≡ None → first_place_apart i xs ys ≡ first_place_apart (i + n) (drop n xs) (drop n ys)
-skip zero i xs ys l e = rw add-zero refl
-skip (suc n) i [] ys l e = refl
-skip (suc n) i (x ∷ xs) [] l e = absurd (omega arith)
-skip (suc n) i (x ∷ xs) (y ∷ ys) l e = by (nat_eq x y) refl (λ h. skip n (i + 1) xs ys (omega arith) h)
-  where
-    by : (b : Bool) → nat_eq x y ≡ b → (first_place_apart (i + 1) (take n xs) (take n ys) ≡ None → first_place_apart (i + 1) xs ys ≡ first_place_apart (i + 1 + n) (drop n xs) (drop n ys))
-        → first_place_apart i (x ∷ xs) (y ∷ ys) ≡ first_place_apart (i + suc n) (drop n xs) (drop n ys)
-    by true p rest =
-        let j : i + 1 + n ≡ i + suc n = omega arith in
-        rw p (rest (rw p at e) ∙ ap (λ k. first_place_apart k (drop n xs) (drop n ys)) j)
-    by false p rest = absurd (let h : Some i ≡ None = rw p at e in cc)
 
 -- lines that stand j places further on
 pub later : (j i : ℕ) (xs ys : List ℕ) → first_place_apart (j + i) xs ys ≡ option_map (λ k. j + k) (first_place_apart i xs ys)

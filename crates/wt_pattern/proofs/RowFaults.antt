@@ -1,48 +1,20 @@
--- The faults of a row: the first to the right and the first upwards, and the colours along a line of cells.
-use Rattle.std.proofs.Common.{arith, ◌≡◌, ℕ, zero, suc, ◌+◌, ◌-◌, ◌*◌, ◌≤◌, ◌<◌, List, take, drop, map, length, get_or, Option, None, Some, Bool, true, false, not, nat_lt, nat_le, if◌then◌else◌, refl, ap, sym, ◌∙◌}
+-- Rows of a rectangle, and what is known of a row whose cells match their neighbours.
+use Rattle.std.proofs.Common.{arith, ◌≡◌, ℕ, zero, suc, [], ◌∷◌, nat_eq, ◌+◌, ◌-◌, ◌*◌, ◌≤◌, ◌<◌, ◌&&◌, List, take, drop, set, length, get_or, None, Some, if◌then◌else◌, Bool, true, false, not, nat_lt, refl, ap, sym, ◌∙◌, inl, inr}
 use Rattle.wt_grid.proofs.First.{all_none}
 use Rattle.wt_grid.specs.declared.axis.Axis.TheVariants.{One, Two}
-use Rattle.wt_grid.specs.declared.axis.Axis.{Axis}
-use Rattle.std.specs.List.{slice_range}
+use Rattle.std.specs.List.{slice_range, list_all}
+use Rattle.std.proofs.lemmas.Bool.{and_parts, cases_lt}
 use Rattle.std.proofs.lemmas.Bool.Decides.{nat_tests}
-use Rattle.std.proofs.lemmas.List.{get_or-take, get_or-drop, get_or-map, length-map, length-take, length-drop, take-map, drop-map, drop-drop, take_all}
+use Rattle.std.proofs.lemmas.List.{get_or-take, get_or-drop, length-take, length-drop, get_or-set_same, get_or-set_other, get_or_past}
 use Rattle.std.proofs.lemmas.Nat.{mul-add-lt}
 use Rattle.wt_tile.specs.declared.tile.Tile.{Tile}
-use Rattle.wt_tile.specs.Matching.{matches, tile_at, ahead, behind}
-use Rattle.wt_lane.specs.Differs.{first_place_apart}
+use Rattle.wt_tile.specs.Matching.{matches, tile_at}
 use Rattle.wt_grid.specs.First.{first_from}
 use Rattle.wt_grid.specs.Grid.{Grid, cell, IsGrid}
 use Rattle.wt_pattern.specs.declared.fault.Fault.{Fault}
-use Rattle.wt_pattern.specs.Validity.{clashes, fault_in}
-use Rattle.wt_pattern.specs.Rows.{flagged, first_place, earlier, colours_ahead, colours_behind}
-use Rattle.wt_pattern.proofs.First.{none_behind, place_within}
-use Rattle.wt_pattern.proofs.Lines.{by_places, found, skip, later, within}
-
--- the fault at a place, by two tests
-abbrev pub either_at : ℕ → (ℕ → Bool) → (ℕ → Bool) → ℕ → Option Fault
-either_at y a b x = if a x then Some (record { axis = One; x = x; y = y }) else if b x then Some (record { axis = Two; x = x; y = y }) else None
-
-right_first : (y i : ℕ) (up : Option ℕ) → ((k : ℕ) → up ≡ Some k → i ≤ k) → earlier y (Some i) up ≡ Some (record { axis = One; x = i; y = y })
-right_first y i None h = refl
-right_first y i (Some k) h = let le : i ≤ k = h k refl in let e : nat_le i k ≡ true = grind (arith, nat_tests) in rw e refl
-
-up_first : (y i : ℕ) (right : Option ℕ) → ((k : ℕ) → right ≡ Some k → i < k) → earlier y right (Some i) ≡ Some (record { axis = Two; x = i; y = y })
-up_first y i None h = refl
-up_first y i (Some k) h = let lt : i < k = h k refl in let e : nat_le k i ≡ false = grind (arith, nat_tests) in rw e refl
-
--- the first fault by two tests is the earlier of the first places
-pub either_first : (y : ℕ) (a b : ℕ → Bool) (i n : ℕ) → first_from (either_at y a b) i n ≡ earlier y (first_from (flagged a) i n) (first_from (flagged b) i n)
-either_first y a b i zero = refl
-either_first y a b i (suc n) = by (a i) (b i) refl refl (either_first y a b (i + 1) n)
-  where
-    by : (p q : Bool) → a i ≡ p → b i ≡ q → first_from (either_at y a b) (i + 1) n ≡ earlier y (first_from (flagged a) (i + 1) n) (first_from (flagged b) (i + 1) n)
-        → first_from (either_at y a b) i (suc n) ≡ earlier y (first_from (flagged a) i (suc n)) (first_from (flagged b) i (suc n))
-    by true q e f rest = rw e (sym (right_first y i (first_from (flagged b) i (suc n)) (λ k h. place_within b i (suc n) k h)))
-    by false true e f rest = rw (e, f) (sym (up_first y i (first_from (flagged a) (i + 1) n) (λ k h. let le = place_within a (i + 1) n k h in omega arith)))
-    by false false e f rest = rw (e, f) rest
-
-pub fault_by_axes : (ts : List Tile) (g : Grid) (y : ℕ) → fault_in ts g y ≡ earlier y (first_place (clashes ts One g y) g.width) (first_place (clashes ts Two g y) g.width)
-fault_by_axes ts g y = either_first y (clashes ts One g y) (clashes ts Two g y) 0 g.width
+use Rattle.wt_pattern.specs.Validity.{fault_at, fault_in, stranger_in, stranger_at}
+use Rattle.wt_pattern.specs.Rows.{HasColours, AreMatched}
+use Rattle.wt_pattern.proofs.First.{none_ahead}
 
 -- Rows of a rectangle.
 
@@ -64,111 +36,88 @@ row_length g y grid lt =
     let e = row_end g y grid lt in
     omega (arith, length-take (y * g.width + g.width - y * g.width) (drop (y * g.width) g.cells), length-drop (y * g.width) g.cells)
 
--- the colours at a place of a line
-colour_at : (f : Tile → ℕ) (ts : List Tile) (cells : List ℕ) (k : ℕ) → k < length cells → get_or (map (λ a. f (tile_at ts a)) cells) k 0 ≡ f (tile_at ts (get_or cells k 0))
-colour_at f ts cells k lt = get_or-map (λ a. f (tile_at ts a)) cells k 0 0 lt
+-- Numbers below a bound.
 
--- two lines of one length, by places
-pub line_places : (ts : List Tile) (axis : Axis) (low high : List ℕ) (f : ℕ → Bool) → length low ≡ length high
-    → ((k : ℕ) → k < length low → f k ≡ not (matches ts axis (get_or low k 0) (get_or high k 0)))
-    → first_place_apart 0 (colours_ahead ts axis low) (colours_behind ts axis high) ≡ first_from (flagged f) 0 (length low)
+each_below : (bound : ℕ) (cells : List ℕ) → list_all (λ x. nat_lt x bound) cells ≡ true → (k : ℕ) → k < length cells → get_or cells k 0 < bound
+each_below bound [] e k lt = absurd (omega arith)
+each_below bound (x ∷ xs) e zero lt = let t = (and_parts (nat_lt x bound) (list_all (λ x. nat_lt x bound) xs) e).0 in grind (arith, nat_tests, t)
+each_below bound (x ∷ xs) e (suc k) lt = each_below bound xs (and_parts (nat_lt x bound) (list_all (λ x. nat_lt x bound) xs) e).1 k (omega arith)
+
+-- where the numbers of a list are below a bound, so is each, and 0 past the last
+pub all_small : (bound : ℕ) (cells : List ℕ) → list_all (λ x. nat_lt x bound) cells ≡ true → (k : ℕ) → 0 < bound → get_or cells k 0 < bound
+all_small bound cells e k some = elim (cases_lt k (length cells)) [
+  | inl lt ↦ each_below bound cells e k lt
+  | inr le ↦ rw (get_or_past cells k 0 le) some
+]
+
+-- so is each of a part
+pub part_small : (cells : List ℕ) (from end : ℕ) → ((k : ℕ) → get_or cells k 0 < 256) → (k : ℕ) → get_or (slice_range cells from end) k 0 < 256
+part_small cells from end small k = elim (cases_lt k (end - from)) [
+  | inl lt ↦ rw (get_or-take (end - from) (drop from cells) k 0 lt, get_or-drop from cells k 0) (small (from + k))
+  | inr le ↦ rw (get_or_past (take (end - from) (drop from cells)) k 0 (omega (arith, length-take (end - from) (drop from cells)))) (omega arith)
+]
+
+-- a row whose cells are below a bound has no stranger
+pub no_stranger : (n : ℕ) (g : Grid) (y : ℕ) (r : List ℕ) → r ≡ row g y → list_all (λ x. nat_lt x n) r ≡ true → length r ≡ g.width → None ≡ stranger_in n g y
+no_stranger n g y r e all long = sym (all_none (stranger_at n g y) 0 g.width (λ k low high.
+    let here : get_or r k 0 < n = each_below n r all k (omega (arith, high, long)) in
+    let same : get_or r k 0 ≡ cell g k y = ap (λ (l : List ℕ). get_or l k 0) e ∙ row_cell g k y (omega (arith, high)) in
+    let test : nat_lt (cell g k y) n ≡ true = grind (arith, nat_tests, here, same) in
+    rw test refl))
+
+-- Tables of colours.
+
+-- one value more of a table
+noted : (f : ℕ → ℕ) (xs : List ℕ) (n v : ℕ) → n < length xs → v ≡ f n → ((a : ℕ) → a < n → get_or xs a 0 ≡ f a) → (a : ℕ) → a < n + 1 → get_or (set xs n v) a 0 ≡ f a
+noted f xs n v lt e before a la = elim (cases_lt a n) [
+  | inl lo ↦ get_or-set_other xs n a v 0 (λ same. absurd (omega arith)) ∙ before a lo
+  | inr hi ↦ let x : a ≡ n = omega arith in rw x (get_or-set_same xs n v 0 lt ∙ e)
+]
+
+pub colours_more : (ts : List Tile) (n : ℕ) (e o w s : List ℕ) → n < length e → n < length o → n < length w → n < length s → HasColours ts n e o w s
+    → HasColours ts (n + 1) (set e n (tile_at ts n).east) (set o n (tile_at ts n).north) (set w n (tile_at ts n).west) (set s n (tile_at ts n).south)
+colours_more ts n e o w s le lo lw ls h = record {
+  east_of = noted (λ a. (tile_at ts a).east) e n (tile_at ts n).east le refl h.east_of;
+  north_of = noted (λ a. (tile_at ts a).north) o n (tile_at ts n).north lo refl h.north_of;
+  west_of = noted (λ a. (tile_at ts a).west) w n (tile_at ts n).west lw refl h.west_of;
+  south_of = noted (λ a. (tile_at ts a).south) s n (tile_at ts n).south ls refl h.south_of;
+}
+
+-- tiles match where their colours do
+pub by_colours : (ts : List Tile) (e o w s : List ℕ) → HasColours ts 256 e o w s → (a b : ℕ) → a < 256 → b < 256
+    → (nat_eq (get_or e a 0) (get_or w b 0) ≡ matches ts One a b) × (nat_eq (get_or o a 0) (get_or s b 0) ≡ matches ts Two a b)
 unfolding matches
-line_places ts axis low high f l h =
-    by_places (colours_ahead ts axis low) (colours_behind ts axis high) f 0 (length-map low _ ∙ l ∙ sym (length-map high _))
-    (λ k lt.
-    let inside : k < length low = rw (length-map low (λ a. ahead axis (tile_at ts a))) at lt in
-    let within : k < length high = rw l at inside in
-    let zeroth : 0 + k ≡ k = omega arith in
-    rw (zeroth, colour_at (ahead axis) ts low k inside, colour_at (behind axis) ts high k within) (h k inside))
-    ∙ ap (first_from (flagged f) 0) (length-map low _)
+by_colours ts e o w s h a b la lb = (rw (h.east_of a la, h.west_of b lb) refl, rw (h.north_of a la, h.south_of b lb) refl)
 
--- the row without its last cell, and without its first
-pub right_places : (ts : List Tile) (g : Grid) (y : ℕ) → IsGrid g → y < g.height
-    → first_place_apart 0 (colours_ahead ts One (take (g.width - 1) (row g y))) (colours_behind ts One (drop 1 (row g y))) ≡ first_place (clashes ts One g y) g.width
-right_places ts g y grid lt =
-    let wide = grid.wide in
-    let long : length (row g y) ≡ g.width = row_length g y grid lt in
-    let low : length (take (g.width - 1) (row g y)) ≡ g.width - 1 = omega (arith, length-take (g.width - 1) (row g y)) in
-    let high : length (drop 1 (row g y)) ≡ g.width - 1 = omega (arith, length-drop 1 (row g y)) in
-    line_places ts One (take (g.width - 1) (row g y)) (drop 1 (row g y)) (clashes ts One g y) (low ∙ sym high)
-    (λ k inside.
-    let near : k < g.width - 1 = rw low at inside in
-    let here : get_or (take (g.width - 1) (row g y)) k 0 ≡ cell g k y = get_or-take (g.width - 1) (row g y) k 0 near ∙ row_cell g k y (omega arith) in
-    let next : get_or (drop 1 (row g y)) k 0 ≡ cell g (k + 1) y = get_or-drop 1 (row g y) k 0 ∙ row_cell g (1 + k) y (omega arith) ∙ (let s : 1 + k ≡ k + 1 = omega arith in ap (λ x. cell g x y) s) in
-    let test : nat_lt (k + 1) g.width ≡ true = grind (arith, nat_tests) in
-    rw (here, next, test) refl)
-    ∙ ap (first_from (flagged (clashes ts One g y)) 0) low
-    ∙ sym (none_behind (flagged (clashes ts One g y)) 0 (g.width - 1) g.width (omega arith)
-    (λ j from below. let test : nat_lt (j + 1) g.width ≡ false = grind (arith, nat_tests) in rw test refl))
+-- Cells that match.
 
--- the same of a row as it was read
-pub right_read : (ts : List Tile) (g : Grid) (y : ℕ) (r : List ℕ) (w : ℕ) → r ≡ row g y → w ≡ g.width → IsGrid g → y < g.height
-    → first_place_apart 0 (colours_ahead ts One (take (w - 1) r)) (colours_behind ts One (take (length r - 1) (drop 1 r))) ≡ first_place (clashes ts One g y) g.width
-right_read ts g y r w p q grid lt =
-    let whole : take (length (row g y) - 1) (drop 1 (row g y)) ≡ drop 1 (row g y) = take_all (length (row g y) - 1) (drop 1 (row g y)) (omega (arith, length-drop 1 (row g y))) in
-    rw (p, q, whole) (right_places ts g y grid lt)
+-- one cell more
+pub matched_more : (ts : List Tile) (r above : List ℕ) (n : ℕ) (b : Bool) → b ≡ true → b ≡ (matches ts One (get_or r n 0) (get_or r (n + 1) 0) && matches ts Two (get_or r n 0) (get_or above n 0))
+    → AreMatched ts r above n → AreMatched ts r above (n + 1)
+matched_more ts r above n b t e before k lt = elim (cases_lt k n) [
+  | inl lo ↦ before k lo
+  | inr hi ↦ let x : k ≡ n = omega arith in rw x (and_parts (matches ts One (get_or r n 0) (get_or r (n + 1) 0)) (matches ts Two (get_or r n 0) (get_or above n 0)) (sym e ∙ t))
+]
 
--- the row, and the one above it
-pub up_places : (ts : List Tile) (g : Grid) (y : ℕ) → IsGrid g → y + 1 < g.height
-    → first_place_apart 0 (colours_ahead ts Two (row g y)) (colours_behind ts Two (row g (y + 1))) ≡ first_place (clashes ts Two g y) g.width
-up_places ts g y grid lt =
-    let long : length (row g y) ≡ g.width = row_length g y grid (omega arith) in
-    let above : length (row g (y + 1)) ≡ g.width = row_length g (y + 1) grid lt in
-    let test : nat_lt (y + 1) g.height ≡ true = grind (arith, nat_tests) in
-    line_places ts Two (row g y) (row g (y + 1)) (clashes ts Two g y) (long ∙ sym above)
-    (λ k inside.
-    let near : k < g.width = rw long at inside in
-    rw (row_cell g k y near, row_cell g k (y + 1) near, test) refl)
-    ∙ ap (first_from (flagged (clashes ts Two g y)) 0) long
+none_of : (a b : Bool) (f g : Fault) → (if a && not true then Some f else if b && not true then Some g else None) ≡ None
+none_of true true f g = refl
+none_of true false f g = refl
+none_of false true f g = refl
+none_of false false f g = refl
 
-pub up_read : (ts : List Tile) (g : Grid) (y : ℕ) (r s : List ℕ) → r ≡ row g y → s ≡ row g (y + 1) → IsGrid g → y + 1 < g.height
-    → first_place_apart 0 (colours_ahead ts Two r) (colours_behind ts Two s) ≡ first_place (clashes ts Two g y) g.width
-up_read ts g y r s p q grid lt = rw (p, q) (up_places ts g y grid lt)
+-- a cell that matches has no fault
+pub quiet_at : (ts : List Tile) (g : Grid) (y : ℕ) (r above : List ℕ) (n : ℕ) → r ≡ row g y → above ≡ row g (y + 1) → n < g.width → AreMatched ts r above n
+    → (x : ℕ) → x < n → fault_at ts g y x ≡ None
+quiet_at ts g y r above n er ea inside m x lt =
+    let here : get_or r x 0 ≡ cell g x y = ap (λ (l : List ℕ). get_or l x 0) er ∙ row_cell g x y (omega arith) in
+    let next : get_or r (x + 1) 0 ≡ cell g (x + 1) y = ap (λ (l : List ℕ). get_or l (x + 1) 0) er ∙ row_cell g (x + 1) y (omega arith) in
+    let up : get_or above x 0 ≡ cell g x (y + 1) = ap (λ (l : List ℕ). get_or l x 0) ea ∙ row_cell g x (y + 1) (omega arith) in
+    let one : matches ts One (cell g x y) (cell g (x + 1) y) ≡ true = rw (here, next) at (m x lt).0 in
+    let two : matches ts Two (cell g x y) (cell g x (y + 1)) ≡ true = rw (here, up) at (m x lt).1 in
+    rw (one, two) (none_of (nat_lt (x + 1) g.width) (nat_lt (y + 1) g.height) (record { axis = One; x = x; y = y }) (record { axis = Two; x = x; y = y }))
 
--- no row is above the last
-pub none_up : (ts : List Tile) (g : Grid) (y : ℕ) → g.height ≤ y + 1 → None ≡ first_place (clashes ts Two g y) g.width
-none_up ts g y le =
-    let test : nat_lt (y + 1) g.height ≡ false = grind (arith, nat_tests) in
-    sym (all_none (flagged (clashes ts Two g y)) 0 g.width (λ k low high. rw test refl))
-
--- A line, piece by piece.
-
-module _ (ts : List Tile) (axis : Axis) where
-  -- the lines from a place on
-  abbrev from : ℕ → List ℕ → List ℕ → Option ℕ
-  from at low high = first_place_apart at (colours_ahead ts axis (drop at low)) (colours_behind ts axis (drop at high))
-
-  -- the first fault of n cells from a place on, counted from there
-  abbrev piece : ℕ → ℕ → List ℕ → List ℕ → Option ℕ
-  piece at n low high = first_place_apart 0 (colours_ahead ts axis (slice_range low at (at + n))) (colours_behind ts axis (slice_range high at (at + n)))
-
-  front : (at n : ℕ) (low high : List ℕ)
-      → piece at n low high ≡ first_place_apart 0 (take n (colours_ahead ts axis (drop at low))) (take n (colours_behind ts axis (drop at high)))
-  front at n low high =
-      let m : at + n - at ≡ n = omega arith in
-      rw (m, take-map (λ a. ahead axis (tile_at ts a)) n (drop at low), take-map (λ a. behind axis (tile_at ts a)) n (drop at high)) refl
-
-  pub piece_found : (at n i : ℕ) (low high : List ℕ) → piece at n low high ≡ Some i → from at low high ≡ Some (at + i)
-  piece_found at n i low high e =
-      let X = colours_ahead ts axis (drop at low) in
-      let Y = colours_behind ts axis (drop at high) in
-      let all : first_place_apart 0 X Y ≡ Some i = found n 0 X Y i (sym (front at n low high) ∙ e) in
-      let zeroth : at + 0 ≡ at = omega arith in
-      sym (ap (λ k. first_place_apart k X Y) zeroth) ∙ later at 0 X Y ∙ rw all refl
-
-  pub piece_skipped : (at n : ℕ) (low high : List ℕ) → length low ≡ length high → piece at n low high ≡ None → from at low high ≡ from (at + n) low high
-  piece_skipped at n low high l e =
-      let X = colours_ahead ts axis (drop at low) in
-      let Y = colours_behind ts axis (drop at high) in
-      let zeroth : at + 0 ≡ at = omega arith in
-      let none : first_place_apart 0 (take n X) (take n Y) ≡ None = sym (front at n low high) ∙ e in
-      let none_here : first_place_apart at (take n X) (take n Y) ≡ None = sym (ap (λ k. first_place_apart k (take n X) (take n Y)) zeroth) ∙ later at 0 (take n X) (take n Y) ∙ rw none refl in
-      let long : length X ≡ length Y = length-map (drop at low) _ ∙ length-drop at low ∙ ap (λ k. k - at) l ∙ sym (length-drop at high) ∙ sym (length-map (drop at high) _) in
-      skip n at X Y long none_here
-      ∙ rw (drop-map (λ a. ahead axis (tile_at ts a)) n (drop at low), drop-map (λ a. behind axis (tile_at ts a)) n (drop at high), drop-drop n at low, drop-drop n at high) refl
-
-  -- a fault of a piece is inside
-  pub piece_within : (at n i : ℕ) (low high : List ℕ) → piece at n low high ≡ Some i → i < length low
-  piece_within at n i low high e =
-      let r = within 0 (colours_ahead ts axis (slice_range low at (at + n))) (colours_behind ts axis (slice_range high at (at + n))) i e in
-      omega (arith, length-map (slice_range low at (at + n)) (λ a. ahead axis (tile_at ts a)), length-take (at + n - at) (drop at low), length-drop at low)
+-- the first fault of a row is the first behind cells that have none
+pub behind_quiet : (ts : List Tile) (g : Grid) (y start : ℕ) → start < g.width → ((x : ℕ) → x < start → fault_at ts g y x ≡ None) → first_from (fault_at ts g y) start (g.width - start) ≡ fault_in ts g y
+behind_quiet ts g y start lt quiet =
+    let zeroth : 0 + start ≡ start = omega arith in
+    sym (none_ahead (fault_at ts g y) 0 g.width start (omega arith) (λ j low high. quiet j (omega (arith, high))) ∙ ap (λ (k : ℕ). first_from (fault_at ts g y) k (g.width - start)) zeroth)

@@ -1,11 +1,9 @@
--- Scaffolding: what is found row by row: the colours along a line of cells, and the first fault of a row.
-use Rattle.std.specs.Prelude.{ℕ, Bool, nat_le, List, map, Option, None, Some, if◌then◌else◌}
+-- Scaffolding: what is found row by row: the first place of a row, and the cells that match their neighbours.
+use Rattle.std.specs.Prelude.{◌≡◌, ℕ, ◌+◌, ◌<◌, Bool, true, List, Option, None, Some, slice_index, if◌then◌else◌}
 use Rattle.wt_grid.specs.declared.axis.Axis.TheVariants.{One, Two}
-use Rattle.wt_grid.specs.declared.axis.Axis.{Axis}
 use Rattle.wt_tile.specs.declared.tile.Tile.{Tile}
-use Rattle.wt_tile.specs.Matching.{tile_at, ahead, behind}
+use Rattle.wt_tile.specs.Matching.{matches, tile_at}
 use Rattle.wt_grid.specs.First.{first_from}
-use Rattle.wt_pattern.specs.declared.fault.Fault.{Fault}
 
 -- a number that passes, as an answer
 abbrev pub flagged : (ℕ → Bool) → ℕ → Option ℕ
@@ -15,17 +13,14 @@ flagged passes x = if passes x then Some x else None
 abbrev pub first_place : (ℕ → Bool) → ℕ → Option ℕ
 first_place passes n = first_from (flagged passes) 0 n
 
--- the colours that tiles show ahead along the axis: east or north
-abbrev pub colours_ahead : List Tile → Axis → List ℕ → List ℕ
-colours_ahead ts axis cells = map (λ a. ahead axis (tile_at ts a)) cells
+-- the colours of the four edges of each of the first n tile numbers, in four lists
+pub record HasColours (ts : List Tile) (n : ℕ) (east north west south : List ℕ) : Type 0 where
+  pub east_of : (a : ℕ) → a < n → slice_index east a ≡ (tile_at ts a).east
+  pub north_of : (a : ℕ) → a < n → slice_index north a ≡ (tile_at ts a).north
+  pub west_of : (a : ℕ) → a < n → slice_index west a ≡ (tile_at ts a).west
+  pub south_of : (a : ℕ) → a < n → slice_index south a ≡ (tile_at ts a).south
 
--- the colours that tiles show behind along the axis: west or south
-abbrev pub colours_behind : List Tile → Axis → List ℕ → List ℕ
-colours_behind ts axis cells = map (λ a. behind axis (tile_at ts a)) cells
-
--- of the first fault to the right and the first fault upwards in row y the earlier one: at one cell the fault to the right
-abbrev pub earlier : ℕ → Option ℕ → Option ℕ → Option Fault
-earlier y None None = None
-earlier y None (Some up) = Some (record { axis = Two; x = up; y = y })
-earlier y (Some right) None = Some (record { axis = One; x = right; y = y })
-earlier y (Some right) (Some up) = if nat_le right up then Some (record { axis = One; x = right; y = y }) else Some (record { axis = Two; x = up; y = y })
+-- each of the first n cells of a row matches the cell to its right, and the cell of the row above it
+abbrev pub AreMatched : List Tile → List ℕ → List ℕ → ℕ → Type 0
+AreMatched ts row above n = (k : ℕ) → k < n
+    → (matches ts One (slice_index row k) (slice_index row (k + 1)) ≡ true) × (matches ts Two (slice_index row k) (slice_index above k) ≡ true)

@@ -1,100 +1,90 @@
-// Two lines of cells beside each other: where their tiles don't match.
-ghost use Rattle.std.specs.Prelude.{◌≡◌, ◌≤◌, ◌+◌, ◌<◌, length, take};
-ghost use Rattle.wt_lane.specs.Differs.{first_place_apart};
-ghost use Rattle.wt_pattern.specs.Rows.{colours_ahead, colours_behind};
-ghost use Rattle.wt_pattern.specs.Rows as spec;
+// Two rows of cells, one above the other: how many of their first cells match their neighbours.
+ghost use Rattle.std.specs.Prelude.{◌≡◌, ◌≤◌, ◌+◌, ◌<◌, ◌&&◌, ℕ, length, slice_index};
+ghost use Rattle.wt_tile.specs.Matching.{matches};
+ghost use Rattle.wt_pattern.specs.Rows.{HasColours, AreMatched};
 
-use crate::Fault;
-use wt_lane::first_difference;
-use wt_tile::{Axis, Tile, ahead, behind, tile_at};
+use wt_tile::{Axis, Tile, tile_at};
 
-/// How many colours are gathered at a time.
-const PIECE: usize = 64;
-
-/// Writes the colours that these cells show ahead to the front of a piece.
-fn gather_ahead(tiles: &[Tile], axis: Axis, cells: &[u16], piece: &mut [u16; 64])
-    requires { length cells.now ≤ 64 }
-    ensures { take (length cells.now) piece.new ≡ colours_ahead tiles.now axis cells.now }
-{
-    for (i, cell) in cells.iter().enumerate() {
-        piece[i] = ahead(axis, tile_at(tiles, *cell));
-    }
+/// The colours of the four edges of each tile number below 256.
+#[derive(Drop)]
+pub struct Colours<'a> {
+    /// The tiles.
+    pub tiles: &'a [Tile],
+    east: [u16; 256],
+    north: [u16; 256],
+    west: [u16; 256],
+    south: [u16; 256],
+    ghost each: { HasColours tiles.now 256 east north west south },
 }
 
-/// Writes the colours that these cells show behind to the front of a piece.
-fn gather_behind(tiles: &[Tile], axis: Axis, cells: &[u16], piece: &mut [u16; 64])
-    requires { length cells.now ≤ 64 }
-    ensures { take (length cells.now) piece.new ≡ colours_behind tiles.now axis cells.now }
-{
-    for (i, cell) in cells.iter().enumerate() {
-        piece[i] = behind(axis, tile_at(tiles, *cell));
-    }
-}
-
-/// The first place where two lines of at most 64 cells don't match along the axis, the second line being ahead.
-fn piece_fault(tiles: &[Tile], axis: Axis, low: &[u16], high: &[u16]) -> Option<usize>
-    requires same { length low.now ≡ length high.now }
-    requires few { length low.now ≤ 64 }
-    ensures { result ≡ first_place_apart 0 (colours_ahead tiles.now axis low.now) (colours_behind tiles.now axis high.now) }
-{
-    let mut shown = [0u16; PIECE];
-    let mut met = [0u16; PIECE];
-    gather_ahead(tiles, axis, low, &mut shown);
-    gather_behind(tiles, axis, high, &mut met);
-    first_difference(&shown[..low.len()], &met[..high.len()])
-}
-
-/// The first place where two lines of one length don't match along the axis, the second line being ahead.
-pub fn line_fault(tiles: &[Tile], axis: Axis, low: &[u16], high: &[u16]) -> Option<usize>
-    requires { length low.now ≡ length high.now }
-    ensures { result ≡ first_place_apart 0 (colours_ahead tiles.now axis low.now) (colours_behind tiles.now axis high.now) }
-{
-    let mut at = 0usize;
-    while at < low.len() {
-        let count = (low.len() - at).min(PIECE);
-        if let Some(i) = piece_fault(tiles, axis, &low[at..at + count], &high[at..at + count]) {
-            return Some(at + i);
+impl<'a> Colours<'a> {
+    /// The colours of these tiles; a number past the list counts as a blank tile.
+    pub fn new(tiles: &'a [Tile]) -> Colours<'a>
+        ensures { result.tiles.now ≡ tiles.now }
+    {
+        let mut east = [0u16; 256];
+        let mut north = [0u16; 256];
+        let mut west = [0u16; 256];
+        let mut south = [0u16; 256];
+        for a in 0..256u16 {
+            let tile = tile_at(tiles, a);
+            east[usize::from(a)] = tile.east;
+            north[usize::from(a)] = tile.north;
+            west[usize::from(a)] = tile.west;
+            south[usize::from(a)] = tile.south;
         }
-        at += count;
-    }
-    None
-}
-
-/// Of the first fault to the right and the first fault upwards in a row the earlier one: at one cell the fault to
-/// the right.
-pub fn earlier(y: usize, right: Option<usize>, up: Option<usize>) -> Option<Fault>
-    ensures { result ≡ spec.earlier y right up }
-{
-    match (right, up) {
-        (None, None) => None,
-        (None, Some(x)) => Some(upward(x, y)),
-        (Some(x), None) => Some(rightward(x, y)),
-        (Some(x), Some(z)) => {
-            if x <= z {
-                Some(rightward(x, y))
-            } else {
-                Some(upward(z, y))
-            }
+        Colours {
+            tiles,
+            east,
+            north,
+            west,
+            south,
         }
     }
-}
 
-fn rightward(x: usize, y: usize) -> Fault
-    ensures { result ≡ record { axis = Axis.One; x = x; y = y } }
-{
-    Fault {
-        axis: Axis::One,
-        x,
-        y,
+    /// Whether tile b may stand to the right of tile a.
+    fn is_right(&self, a: u16, b: u16) -> bool
+        requires first { a < 256 }
+        requires second { b < 256 }
+        ensures { result ≡ matches self.now.tiles.now Axis.One a b }
+    {
+        self.east[usize::from(a)] == self.west[usize::from(b)]
     }
-}
 
-fn upward(x: usize, y: usize) -> Fault
-    ensures { result ≡ record { axis = Axis.Two; x = x; y = y } }
-{
-    Fault {
-        axis: Axis::Two,
-        x,
-        y,
+    /// Whether tile b may stand above tile a.
+    fn is_up(&self, a: u16, b: u16) -> bool
+        requires first { a < 256 }
+        requires second { b < 256 }
+        ensures { result ≡ matches self.now.tiles.now Axis.Two a b }
+    {
+        self.north[usize::from(a)] == self.south[usize::from(b)]
+    }
+
+    /// Whether tile b may stand to the right of tile a, and tile c above it.
+    fn is_matched(&self, a: u16, b: u16, c: u16) -> bool
+        requires first { a < 256 }
+        requires right { b < 256 }
+        requires up { c < 256 }
+        ensures { result ≡ (matches self.now.tiles.now Axis.One a b && matches self.now.tiles.now Axis.Two a c) }
+    {
+        self.is_right(a, b) && self.is_up(a, c)
+    }
+
+    /// How many of the first cells of a row match the cell to their right and the cell of the other row, which is
+    /// above; the last cell is not counted.
+    pub fn count_matched(&self, row: &[u16], above: &[u16]) -> usize
+        requires same { length row.now ≡ length above.now }
+        requires some { 1 ≤ length row.now }
+        requires row { (k : ℕ) → slice_index row.now k < 256 }
+        requires above { (k : ℕ) → slice_index above.now k < 256 }
+        ensures within { result < length row.now }
+        ensures matched { AreMatched self.now.tiles.now row.now above.now result }
+    {
+        let last = row.len() - 1;
+        let mut x = 0usize;
+        while x < last && self.is_matched(row[x], row[x + 1], above[x]) {
+            x += 1;
+        }
+        x
     }
 }

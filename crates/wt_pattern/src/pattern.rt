@@ -1,11 +1,13 @@
 // A rectangle of tile numbers.
-ghost use Rattle.std.specs.Prelude.{◌≡◌, ◌+◌, ◌*◌, ◌<◌, ◌≤◌, MatchResult, slice_range, vec_len, length};
+ghost use Rattle.std.specs.Prelude.{◌≡◌, ◌+◌, ◌*◌, ◌<◌, ◌≤◌, ℕ, MatchResult, slice_index, slice_range, vec_len, length};
+ghost use Rattle.std.specs.Bool.{OnTrue};
 ghost use Rattle.wt_grid.specs.Grid.{Grid, IsGrid, cell};
 ghost use Rattle.wt_pattern.specs.Shape.{shape_fault, IsShape};
 
 use crate::ShapeFault;
 use std::marker::Model;
 use wt_grid::MAX_SIDE;
+use wt_lane::all_below;
 
 /// A rectangle of 1 to 4096 by 1 to 4096 numbers of tiles. Row 0 is the bottom row, and cells are kept
 /// in reading order: row by row, each from left to right. Seen by contracts as a `Grid`.
@@ -100,6 +102,13 @@ impl Pattern {
     {
         let start = y * self.width;
         &self.cells[start..start + self.width]
+    }
+
+    /// Whether all cells are below a bound.
+    pub(crate) fn is_below(&self, bound: u16) -> bool
+        ensures { OnTrue result ((k : ℕ) → 0 < bound → slice_index self.now.cells k < bound) }
+    {
+        all_below(&self.cells, bound)
     }
 
     /// The cells in reading order. Takes no memory.

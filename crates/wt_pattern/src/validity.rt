@@ -1,12 +1,14 @@
 // The first cell that is no tile, and the first neighbours that don't match.
-ghost use Rattle.std.specs.Prelude.{◌≡◌, ◌<◌, length};
-ghost use Rattle.wt_pattern.specs.Rows.{first_place};
-ghost use Rattle.wt_pattern.specs.Validity.{first_stranger, clashes, first_fault};
+ghost use Rattle.std.specs.Prelude.{◌≡◌, ◌-◌, ◌<◌, ℕ, None, length, slice_index};
+ghost use Rattle.std.specs.Bool.{OnTrue};
+ghost use Rattle.wt_grid.specs.First.{first_from};
+ghost use Rattle.wt_pattern.specs.Validity.{first_stranger, first_fault};
 ghost use Rattle.wt_pattern.specs.Validity as spec;
 
-use crate::neighbours::{earlier, line_fault};
+use crate::neighbours::Colours;
 use crate::{Fault, Pattern};
-use wt_tile::{Axis, SetRef, Tile};
+use wt_lane::all_below;
+use wt_tile::{Axis, SetRef, Tile, is_match};
 
 /// The first cell in reading order whose number is no tile of the set, or None. Takes no memory.
 #[tactic(auto, using(wt_grid::proofs::First::first_more))]
@@ -23,8 +25,19 @@ pub fn tiles_fault(set: SetRef, p: &Pattern) -> Option<(usize, usize)>
 }
 
 /// The first cell of row y whose number is none of n tiles.
-#[tactic(auto, using(wt_grid::proofs::First::first_more))]
 fn stranger_in(count: usize, p: &Pattern, y: usize) -> Option<(usize, usize)>
+    requires { y < p.now.height }
+    ensures { result ≡ spec.stranger_in count p.now y }
+{
+    if count < 65536 && all_below(p.row(y), count as u16) {
+        return None;
+    }
+    first_stranger_in(count, p, y)
+}
+
+/// The same, cell by cell.
+#[tactic(auto, using(wt_grid::proofs::First::first_more))]
+fn first_stranger_in(count: usize, p: &Pattern, y: usize) -> Option<(usize, usize)>
     requires { y < p.now.height }
     ensures { result ≡ spec.stranger_in count p.now y }
 {
@@ -42,9 +55,10 @@ fn stranger_in(count: usize, p: &Pattern, y: usize) -> Option<(usize, usize)>
 pub fn valid(set: SetRef, p: &Pattern) -> Option<Fault>
     ensures { result ≡ first_fault set.entry.list.now.tiles p.now }
 {
-    let tiles = set.tiles();
+    let colours = Colours::new(set.tiles());
+    let small = p.is_below(256);
     for y in 0..p.height() {
-        if let Some(fault) = fault_in(tiles, p, y) {
+        if let Some(fault) = fault_in(&colours, p, small, y) {
             return Some(fault);
         }
     }
@@ -52,34 +66,81 @@ pub fn valid(set: SetRef, p: &Pattern) -> Option<Fault>
 }
 
 /// The first fault of row y.
-#[tactic(auto, using(crate::proofs::RowFaults::fault_by_axes))]
-fn fault_in(tiles: &[Tile], p: &Pattern, y: usize) -> Option<Fault>
-    requires { y < p.now.height }
-    ensures { result ≡ spec.fault_in tiles.now p.now y }
+fn fault_in(colours: &Colours<'_>, p: &Pattern, small: bool, y: usize) -> Option<Fault>
+    requires row { y < p.now.height }
+    requires small { OnTrue small ((k : ℕ) → slice_index p.now.cells k < 256) }
+    ensures { result ≡ spec.fault_in colours.now.tiles.now p.now y }
 {
-    let right = right_fault(tiles, p, y);
-    let up = up_fault(tiles, p, y);
-    earlier(y, right, up)
+    let start = count_quiet(colours, p, small, y);
+    fault_from(colours.tiles, p, start, y)
 }
 
-/// The first cell of row y that doesn't match the one to its right.
-fn right_fault(tiles: &[Tile], p: &Pattern, y: usize) -> Option<usize>
-    requires { y < p.now.height }
-    ensures { result ≡ first_place (clashes tiles.now Axis.One p.now y) p.now.width }
+/// How many of the first cells of row y were seen to have no fault.
+fn count_quiet(colours: &Colours<'_>, p: &Pattern, small: bool, y: usize) -> usize
+    requires row { y < p.now.height }
+    requires small { OnTrue small ((k : ℕ) → slice_index p.now.cells k < 256) }
+    ensures within { result < p.now.width }
+    ensures quiet { (x : ℕ) → x < result → spec.fault_at colours.now.tiles.now p.now y x ≡ None }
 {
-    let width = p.width();
-    let row = p.row(y);
-    line_fault(tiles, Axis::One, &row[..width - 1], &row[1..])
+    let height = p.height();
+    if small && height - y > 1 {
+        colours.count_matched(p.row(y), p.row(y + 1))
+    } else {
+        0
+    }
 }
 
-/// The first cell of row y that doesn't match the one above it.
-fn up_fault(tiles: &[Tile], p: &Pattern, y: usize) -> Option<usize>
-    requires { y < p.now.height }
-    ensures { result ≡ first_place (clashes tiles.now Axis.Two p.now y) p.now.width }
+/// The first fault of row y from a cell on.
+#[tactic(auto, using(wt_grid::proofs::First::first_more))]
+fn fault_from(tiles: &[Tile], p: &Pattern, from: usize, y: usize) -> Option<Fault>
+    requires row { y < p.now.height }
+    ensures { result ≡ first_from (spec.fault_at tiles.now p.now y) from (p.now.width - from) }
 {
-    if p.height() - y > 1 {
-        line_fault(tiles, Axis::Two, p.row(y), p.row(y + 1))
+    for x in from..p.width() {
+        if let Some(fault) = fault_at(tiles, p, x, y) {
+            return Some(fault);
+        }
+    }
+    None
+}
+
+/// The fault at a cell.
+fn fault_at(tiles: &[Tile], p: &Pattern, x: usize, y: usize) -> Option<Fault>
+    requires column { x < p.now.width }
+    requires row { y < p.now.height }
+    ensures { result ≡ spec.fault_at tiles.now p.now y x }
+{
+    if clashes(tiles, Axis::One, p, x, y) {
+        Some(Fault {
+            axis: Axis::One,
+            x,
+            y,
+        })
+    } else if clashes(tiles, Axis::Two, p, x, y) {
+        Some(Fault {
+            axis: Axis::Two,
+            x,
+            y,
+        })
     } else {
         None
+    }
+}
+
+/// Whether a cell has a neighbour ahead along the axis that doesn't match.
+fn clashes(tiles: &[Tile], axis: Axis, p: &Pattern, x: usize, y: usize) -> bool
+    requires column { x < p.now.width }
+    requires row { y < p.now.height }
+    ensures { result ≡ spec.clashes tiles.now axis p.now y x }
+{
+    let width = p.width();
+    let height = p.height();
+    match axis {
+        Axis::One => {
+            x + 1 < width && !is_match(tiles, Axis::One, p.cell(x, y), p.cell(x + 1, y))
+        }
+        Axis::Two => {
+            y + 1 < height && !is_match(tiles, Axis::Two, p.cell(x, y), p.cell(x, y + 1))
+        }
     }
 }

@@ -1,6 +1,0 @@
-use Rattle.std.proofs.Common.{◌≡◌, take}
-use Rattle.wt_pattern.specs.Rows.{colours_behind}
-use Rattle.wt_pattern.proofs.neighbours.gather_behind.Given as goal
-
-abbrev pub invariant-loop-i : goal.invariant-loop-i
-invariant-loop-i l = take l.i l.piece ≡ colours_behind l.tiles l.axis (take l.i l.cells)
