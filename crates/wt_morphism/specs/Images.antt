@@ -1,5 +1,5 @@
 -- Images of patterns, and why a pattern has none.
-use Rattle.std.specs.Prelude.{◌≡◌, ℕ, ◌+◌, Bool, true, false, ◌||◌, nat_lt, List, [], ◌∷◌, map, slice_index_or, Option, None, Some, if◌then◌else◌}
+use Rattle.std.specs.Prelude.{◌≡◌, ℕ, ◌+◌, Bool, true, false, ◌||◌, nat_lt, List, [], ◌∷◌, map, slice_index_or, Option, None, Some, Result, MatchResult, min, if◌then◌else◌}
 use Rattle.wt_grid.specs.declared.image.Image.TheVariants as tiles
 use Rattle.wt_grid.specs.declared.image.Image.{Image}
 use Rattle.wt_grid.specs.declared.axis.Axis.TheVariants.{One, Two}
@@ -7,7 +7,9 @@ use Rattle.wt_grid.specs.declared.axis.Axis.{Axis}
 use Rattle.std.specs.Option.{option_map}
 use Rattle.wt_grid.specs.First.{or_else, first_from}
 use Rattle.wt_grid.specs.Order.{agree}
-use Rattle.wt_grid.specs.Grid.{Grid, cell}
+use Rattle.wt_grid.specs.Grid.{Grid, cell, lines}
+use Rattle.wt_grid.specs.Lines.{IsImage}
+use Rattle.wt_grid.specs.Parts.{part}
 use Rattle.wt_grid.specs.declared.limits.TheConstants.{MAX_SIDE}
 use Rattle.wt_grid.specs.Images.{is_pair, image_grid, piece_at}
 use Rattle.wt_morphism.specs.declared.image.Morphism.{Morphism}
@@ -79,3 +81,19 @@ image_by_all (m ∷ ms) p = image_by_all ms (image m p)
 abbrev pub apply_all_fault : List Morphism → Grid → Option ApplyFault
 apply_all_fault [] p = None
 apply_all_fault (m ∷ ms) p = or_else (apply_fault m p) (apply_all_fault ms (image m p))
+
+-- a call refuses exactly where there is a cause, or where memory runs out and there is none
+abbrev pub RefusesBy : {T : Type 0} → Result T ApplyFault → Option ApplyFault → Type 0
+RefusesBy result cause = MatchResult result (λ _. cause ≡ None) (IsRefusal cause)
+
+-- the same for parts of images
+abbrev pub RefusesCutBy : {T : Type 0} → Result T CutFault → Option (ℕ × ℕ) → Type 0
+RefusesCutBy result cause = MatchResult result (λ _. cause ≡ None) (IsCutRefusal cause)
+
+-- what of g lies in w by h cells from its lower left corner on
+abbrev pub corner_within : ℕ → ℕ → Grid → Grid
+corner_within w h g = part g 0 0 (min w g.width) (min h g.height)
+
+-- the lines of g are the images of the lines of q
+abbrev pub IsLaid : Morphism → Grid → Grid → Type 0
+IsLaid m q g = IsImage (pieces m) (lines m.axis q) (lines m.axis g)

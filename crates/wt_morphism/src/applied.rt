@@ -1,8 +1,9 @@
 // Images of patterns, whole or in part.
-ghost use Rattle.std.specs.Prelude.{◌≡◌, ◌⊎◌, ◌≤◌, min, None, Some, IfOk, MatchResult};
+ghost use Rattle.std.specs.Prelude.{◌≡◌, ◌≤◌, Some, IfOk};
 ghost use Rattle.wt_grid.specs.Parts.{part};
-ghost use Rattle.wt_morphism.specs.Images.{image, IsRefusal, IsCutRefusal, image_by_all};
+ghost use Rattle.wt_morphism.specs.Images.{image, RefusesBy, RefusesCutBy, corner_within, image_by_all};
 ghost use Rattle.wt_morphism.specs.Images as spec;
+ghost use Rattle.wt_grid.specs.Answers.{FailsByOr};
 
 use crate::even::uneven;
 use crate::laid::{image_shape, lay};
@@ -17,7 +18,7 @@ use wt_pattern::Pattern;
 /// table counts as one that stands for tile 0.
 pub fn apply(alloc: Global, m: &Morphism, p: &Pattern) -> Result<Pattern, ApplyFault>
     ensures image { IfOk result (λ q. q ≡ image m.now p.now) }
-    ensures fault { MatchResult result (λ q. spec.apply_fault m.now p.now ≡ None) (λ e. IsRefusal (spec.apply_fault m.now p.now) e) }
+    ensures fault { RefusesBy result (spec.apply_fault m.now p.now) }
 {
     if let Some((x, y)) = uneven(m, p) {
         return Err(ApplyFault::Uneven { x, y });
@@ -43,8 +44,8 @@ pub fn apply_part(
 ) -> Result<Pattern, CutFault>
     requires wide { (1 ≤ w) × (w ≤ MAX_SIDE) }
     requires high { (1 ≤ h) × (h ≤ MAX_SIDE) }
-    ensures part { IfOk result (λ q. q ≡ part (image m.now p.now) 0 0 (min w (image m.now p.now).width) (min h (image m.now p.now).height)) }
-    ensures even { MatchResult result (λ q. spec.uneven m.now p.now ≡ None) (λ e. IsCutRefusal (spec.uneven m.now p.now) e) }
+    ensures part { IfOk result (λ q. q ≡ corner_within w h (image m.now p.now)) }
+    ensures even { RefusesCutBy result (spec.uneven m.now p.now) }
 {
     if let Some((x, y)) = uneven(m, p) {
         return Err(CutFault::Uneven { x, y });
@@ -74,9 +75,7 @@ fn copy_pattern(alloc: Global, p: &Pattern) -> Result<Pattern, AllocError>
 /// The image by none is the pattern itself.
 pub fn apply_all(alloc: Global, parts: &[Morphism], p: &Pattern) -> Result<Pattern, ApplyFault>
     ensures image { IfOk result (λ q. q ≡ image_by_all parts.now p.now) }
-    ensures fault { MatchResult result
-        (λ q. spec.apply_all_fault parts.now p.now ≡ None)
-        (λ e. (spec.apply_all_fault parts.now p.now ≡ Some e) ⊎ (e ≡ ApplyFault.OutOfMemory)) }
+    ensures fault { FailsByOr result (spec.apply_all_fault parts.now p.now) ApplyFault.OutOfMemory }
 {
     let [first, rest @ ..] = parts else {
         return match copy_pattern(alloc, p) {
