@@ -10,7 +10,7 @@ use Rattle.std.proofs.lemmas.List.FromFn.{get_or-map-range_with_len, length-map-
 use Rattle.wt_tile.specs.declared.tile.Tile.{Tile}
 use Rattle.wt_tile.specs.Matching.{tile_at, ahead, behind}
 use Rattle.wt_bijection.specs.Carried.{CarriesColours, IsRenaming}
-use Rattle.wt_bijection.specs.Labels.{scrambled, wrapped, sum_below, share, colour_label, next_label, label_or_zero, next_labels, rounds, marked, summand, label_sum, apart_label, apart_labels}
+use Rattle.wt_bijection.specs.Labels.{scrambled, wrapped, sum_below, share, colour_label, next_label, label_or_own, next_labels, rounds, marked, summand, label_sum, apart_label, apart_labels}
 use Rattle.wt_bijection.specs.Kept.{AreKept, AreSmall}
 use Rattle.wt_bijection.proofs.Carried.{carry_ff, carry_fg, flipped}
 use Rattle.wt_bijection.proofs.Totals.{total_same, total_permuted, IsPermuted}
@@ -78,11 +78,11 @@ next_at : (tiles : List Tile) (labels : List ℕ) (i : ℕ) → i < 256 → i < 
 unfolding next_labels
 next_at tiles labels i lt inside =
     let is : nat_lt i (length tiles) ≡ true = grind (arith, nat_tests, inside) in
-    get_or-map-range_with_len (label_or_zero tiles labels) 0 256 i i 0 lt (omega arith) ∙ (rw is refl)
+    get_or-map-range_with_len (label_or_own tiles labels) 0 256 i i 0 lt (omega arith) ∙ (rw is refl)
 
 pub next_length : (tiles : List Tile) (labels : List ℕ) → length (next_labels tiles labels) ≡ 256
 unfolding next_labels
-next_length tiles labels = length-map-range_with_len (label_or_zero tiles labels) 0 256
+next_length tiles labels = length-map-range_with_len (label_or_own tiles labels) 0 256
 
 module _ (from to : List Tile) (list : List ℕ) (r : IsRenaming from to list) where
   -- the renaming carries each tile onto one with the same label

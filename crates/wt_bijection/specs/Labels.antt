@@ -1,5 +1,5 @@
 -- Scaffolding: labels of tiles: numbers that tell tiles of two sets apart which no renaming carries onto each other.
-use Rattle.std.specs.Prelude.{ℕ, zero, suc, ◌+◌, ◌*◌, ◌%◌, ◌^◌, List, length, map, slice_index, slice_set, nat_eq, nat_lt, if◌then◌else◌}
+use Rattle.std.specs.Prelude.{ℕ, zero, suc, ◌≡◌, ◌<◌, ◌+◌, ◌*◌, ◌%◌, ◌^◌, List, length, map, slice_index, slice_set, nat_eq, nat_lt, if◌then◌else◌}
 use Rattle.wt_grid.specs.declared.axis.Axis.TheVariants.{One, Two}
 use Rattle.wt_grid.specs.declared.axis.Axis.{Axis}
 use Rattle.std.specs.Int.{rotate_left, w64}
@@ -39,21 +39,40 @@ added sums c x = if nat_lt c MAX_COLOURS then slice_set sums c (wrapped (slice_i
 abbrev pub colour_label : Axis → List Tile → List ℕ → ℕ → ℕ
 colour_label axis tiles labels c = if nat_lt c MAX_COLOURS then wrapped (sum_below (share axis tiles labels c) (length tiles)) else 0
 
+-- nothing is added to colour c yet
+abbrev pub cleared : List ℕ → ℕ → List ℕ
+cleared sums c = if nat_lt c MAX_COLOURS then slice_set sums c 0 else sums
+
+-- nothing is added yet to the colours of the first n tiles
+abbrev pub AreCleared : Axis → List Tile → ℕ → List ℕ → Type 0
+AreCleared axis tiles n sums =
+    (i : ℕ) → i < n → (slice_index sums (ahead axis (tile_at tiles i)) ≡ 0) × (slice_index sums (behind axis (tile_at tiles i)) ≡ 0)
+
+-- a list has the labels of the colours that the tiles show
+abbrev pub AreSummed : Axis → List Tile → List ℕ → List ℕ → Type 0
+AreSummed axis tiles labels sums =
+    (i : ℕ) → i < length tiles
+    → (slice_index sums (ahead axis (tile_at tiles i)) ≡ colour_label axis tiles labels (ahead axis (tile_at tiles i)))
+    × (slice_index sums (behind axis (tile_at tiles i)) ≡ colour_label axis tiles labels (behind axis (tile_at tiles i)))
+
+-- a label, and in turn those of four colours
+abbrev pub mixed_in : ℕ → ℕ → ℕ → ℕ → ℕ → ℕ
+mixed_in own east north west south = mixed (mixed (mixed (mixed own east) north) west) south
+
 -- the next label of tile i: of its own and those of its colours
 unfoldable pub next_label : List Tile → List ℕ → ℕ → ℕ
 next_label tiles labels i =
-    mixed (mixed (mixed (mixed (slice_index labels i) (colour_label One tiles labels (ahead One (tile_at tiles i))))
-    (colour_label Two tiles labels (ahead Two (tile_at tiles i))))
-    (colour_label One tiles labels (behind One (tile_at tiles i))))
-    (colour_label Two tiles labels (behind Two (tile_at tiles i)))
+    mixed_in (slice_index labels i)
+    (colour_label One tiles labels (ahead One (tile_at tiles i))) (colour_label Two tiles labels (ahead Two (tile_at tiles i)))
+    (colour_label One tiles labels (behind One (tile_at tiles i))) (colour_label Two tiles labels (behind Two (tile_at tiles i)))
 
--- the next label of tile i, and 0 past the last tile
-abbrev pub label_or_zero : List Tile → List ℕ → ℕ → ℕ
-label_or_zero tiles labels i = if nat_lt i (length tiles) then next_label tiles labels i else 0
+-- the next label of tile i; past the last tile all stays
+abbrev pub label_or_own : List Tile → List ℕ → ℕ → ℕ
+label_or_own tiles labels i = if nat_lt i (length tiles) then next_label tiles labels i else slice_index labels i
 
 -- the next labels of 256 tiles
 unfoldable pub next_labels : List Tile → List ℕ → List ℕ
-next_labels tiles labels = map (label_or_zero tiles labels) (range_with_len 0 MAX_TILES)
+next_labels tiles labels = map (label_or_own tiles labels) (range_with_len 0 MAX_TILES)
 
 -- n rounds
 abbrev pub rounds : List Tile → ℕ → List ℕ → List ℕ

@@ -1,8 +1,7 @@
 // Labels of tiles: numbers that tell tiles of two sets apart which no renaming carries onto each other.
 // A tile's label takes in those of its colours, and a colour's those of the tiles that show it, so that after some rounds a label tells of all that hangs together with its tile.
-ghost use Rattle.std.specs.Prelude.{◌≡◌, ◌<◌, ◌≤◌, ℕ, length, replicate, slice_index, nat_lt, if◌then◌else◌};
-ghost use Rattle.wt_grid.specs.declared.axis.Axis.TheVariants.{One, Two};
-ghost use Rattle.wt_bijection.specs.Labels.{scrambled, added, colour_label};
+ghost use Rattle.std.specs.Prelude.{◌≡◌, ◌<◌, ◌≤◌, ℕ, length, slice_index};
+ghost use Rattle.wt_bijection.specs.Labels.{scrambled, added, cleared, colour_label, AreCleared, AreSummed};
 ghost use Rattle.wt_bijection.specs.Labels as spec;
 
 use wt_grid::{MAX_COLOURS, MAX_TILES};
@@ -27,6 +26,23 @@ fn mixed(x: u64, y: u64) -> u64
     scramble(x.wrapping_add(y))
 }
 
+/// The sums of labels at the colours of both axes: room that is made once for many rounds. A round clears what it uses.
+#[derive(Drop)]
+pub struct Sums {
+    one: [u64; MAX_COLOURS],
+    two: [u64; MAX_COLOURS],
+}
+
+impl Sums {
+    /// Room for the sums of a round.
+    pub fn new() -> Sums {
+        Sums {
+            one: [0; MAX_COLOURS],
+            two: [0; MAX_COLOURS],
+        }
+    }
+}
+
 fn add_to(sums: &mut [u64; MAX_COLOURS], colour: u16, label: u64)
     ensures { sums.new ≡ added sums.old colour label }
 {
@@ -36,23 +52,51 @@ fn add_to(sums: &mut [u64; MAX_COLOURS], colour: u16, label: u64)
     }
 }
 
-/// The labels of the colours of an axis.
-fn colour_labels(axis: Axis, tiles: &[Tile], labels: &Labels) -> [u64; MAX_COLOURS]
-    requires { length tiles.now ≤ MAX_TILES }
-    ensures { (c : ℕ) → c < MAX_COLOURS → slice_index result c ≡ colour_label axis tiles.now labels.now c }
+fn clear_at(sums: &mut [u64; MAX_COLOURS], colour: u16)
+    ensures { sums.new ≡ cleared sums.old colour }
 {
-    let mut sums = [0u64; MAX_COLOURS];
+    let colour = usize::from(colour);
+    if colour < MAX_COLOURS {
+        sums[colour] = 0;
+    }
+}
+
+/// Clears the sums of the colours that the tiles show.
+fn clear(axis: Axis, tiles: &[Tile], sums: &mut [u64; MAX_COLOURS])
+    requires { length tiles.now ≤ MAX_TILES }
+    ensures { AreCleared axis tiles.now (length tiles.now) sums.new }
+{
+    for i in 0..tiles.len() {
+        let tile = tile_at(tiles, i as u16);
+        clear_at(sums, ahead(axis, tile));
+        clear_at(sums, behind(axis, tile));
+    }
+}
+
+/// Adds up the labels of the colours of an axis.
+fn add_labels(axis: Axis, tiles: &[Tile], labels: &Labels, sums: &mut [u64; MAX_COLOURS])
+    requires { length tiles.now ≤ MAX_TILES }
+    ensures { (c : ℕ) → slice_index sums.old c ≡ 0 → slice_index sums.new c ≡ colour_label axis tiles.now labels.now c }
+{
     for i in 0..tiles.len() {
         let label = labels[i];
         let tile = tile_at(tiles, i as u16);
-        add_to(&mut sums, ahead(axis, tile), label);
-        add_to(&mut sums, behind(axis, tile), scramble(label));
+        add_to(sums, ahead(axis, tile), label);
+        add_to(sums, behind(axis, tile), scramble(label));
     }
-    sums
+}
+
+/// The labels of the colours that the tiles show.
+fn sum_labels(axis: Axis, tiles: &[Tile], labels: &Labels, sums: &mut [u64; MAX_COLOURS])
+    requires { length tiles.now ≤ MAX_TILES }
+    ensures { AreSummed axis tiles.now labels.now sums.new }
+{
+    clear(axis, tiles, sums);
+    add_labels(axis, tiles, labels, sums);
 }
 
 fn label_at(sums: &[u64; MAX_COLOURS], colour: u16) -> u64
-    ensures { result ≡ (if nat_lt colour MAX_COLOURS then slice_index sums.now colour else 0) }
+    ensures { result ≡ slice_index sums.now colour }
 {
     let colour = usize::from(colour);
     if colour < MAX_COLOURS {
@@ -62,56 +106,38 @@ fn label_at(sums: &[u64; MAX_COLOURS], colour: u16) -> u64
     }
 }
 
-#[tactic(auto, unfolding(crate::specs::Labels::next_label))]
-fn next_label(
-    tiles: &[Tile],
-    labels: &Labels,
-    i: u16,
-    one: &[u64; MAX_COLOURS],
-    two: &[u64; MAX_COLOURS],
-) -> u64
-    requires inside { i < MAX_TILES }
-    requires one { (c : ℕ) → c < MAX_COLOURS → slice_index one.now c ≡ colour_label One tiles.now labels.now c }
-    requires two { (c : ℕ) → c < MAX_COLOURS → slice_index two.now c ≡ colour_label Two tiles.now labels.now c }
-    ensures { result ≡ spec.next_label tiles.now labels.now i }
+fn next_label(tile: Tile, own: u64, sums: &Sums) -> u64
+    ensures { result ≡ spec.mixed_in own
+        (slice_index sums.now.one tile.east) (slice_index sums.now.two tile.north)
+        (slice_index sums.now.one tile.west) (slice_index sums.now.two tile.south) }
 {
-    let tile = tile_at(tiles, i);
-    let own = labels[usize::from(i)];
-    let east = mixed(own, label_at(one, tile.east));
-    let north = mixed(east, label_at(two, tile.north));
-    let west = mixed(north, label_at(one, tile.west));
-    mixed(west, label_at(two, tile.south))
+    let east = mixed(own, label_at(&sums.one, tile.east));
+    let north = mixed(east, label_at(&sums.two, tile.north));
+    let west = mixed(north, label_at(&sums.one, tile.west));
+    mixed(west, label_at(&sums.two, tile.south))
 }
 
-fn no_labels() -> Labels
-    ensures { result ≡ replicate MAX_TILES 0 }
-{
-    [0; MAX_TILES]
-}
-
-fn next_labels(tiles: &[Tile], labels: &Labels) -> Labels
+fn next_labels(tiles: &[Tile], labels: &mut Labels, sums: &mut Sums)
     requires { length tiles.now ≤ MAX_TILES }
-    ensures { result ≡ spec.next_labels tiles.now labels.now }
+    ensures { labels.new ≡ spec.next_labels tiles.now labels.old }
 {
-    let one = colour_labels(Axis::One, tiles, labels);
-    let two = colour_labels(Axis::Two, tiles, labels);
-    let mut next = no_labels();
-    for i in 0..tiles.len() as u16 {
-        next[usize::from(i)] = next_label(tiles, labels, i, &one, &two);
+    sum_labels(Axis::One, tiles, labels, &mut sums.one);
+    sum_labels(Axis::Two, tiles, labels, &mut sums.two);
+    for i in 0..tiles.len() {
+        labels[i] = next_label(tile_at(tiles, i as u16), labels[i], sums);
     }
-    next
 }
 
 /// The labels after n rounds.
 #[tactic(auto, using(crate::proofs::Sums::rounds_more, crate::proofs::Kept::next_length))]
-pub fn rounds(tiles: &[Tile], count: u16, labels: &Labels) -> Labels
+pub fn rounds(tiles: &[Tile], count: u16, labels: &Labels, sums: &mut Sums) -> Labels
     requires { length tiles.now ≤ MAX_TILES }
     ensures value { result ≡ spec.rounds tiles.now count labels.now }
     ensures long { length result ≡ MAX_TILES }
 {
     let mut now = *labels;
     for round in 0..count {
-        now = next_labels(tiles, &now);
+        next_labels(tiles, &mut now, sums);
     }
     now
 }
@@ -140,7 +166,7 @@ pub fn label_sum(labels: &Labels, count: usize) -> u64
 }
 
 /// The sum of all labels some rounds after tile t was told apart.
-fn apart_label(tiles: &[Tile], count: u16, labels: &Labels, t: u16) -> u64
+fn apart_label(tiles: &[Tile], count: u16, labels: &Labels, t: u16, sums: &mut Sums) -> u64
     requires few { length tiles.now ≤ MAX_TILES }
     requires inside { t < MAX_TILES }
     ensures { result ≡ spec.apart_label tiles.now count labels.now t }
@@ -148,18 +174,18 @@ fn apart_label(tiles: &[Tile], count: u16, labels: &Labels, t: u16) -> u64
     if usize::from(t) >= tiles.len() {
         return 0;
     }
-    label_sum(&rounds(tiles, count, &marked(labels, t)), tiles.len())
+    label_sum(&rounds(tiles, count, &marked(labels, t), sums), tiles.len())
 }
 
 /// For each tile the sum of all labels some rounds after it was told apart.
-pub fn apart_labels(tiles: &[Tile], count: u16, labels: &Labels) -> Labels
+pub fn apart_labels(tiles: &[Tile], count: u16, labels: &Labels, sums: &mut Sums) -> Labels
     requires { length tiles.now ≤ MAX_TILES }
     ensures value { result ≡ spec.apart_labels tiles.now count labels.now }
     ensures long { length result ≡ MAX_TILES }
 {
     let mut next = [0u64; MAX_TILES];
     for t in 0..256u16 {
-        next[usize::from(t)] = apart_label(tiles, count, labels, t);
+        next[usize::from(t)] = apart_label(tiles, count, labels, t, sums);
     }
     next
 }
@@ -183,7 +209,7 @@ fn count_labels(labels: &Labels, count: usize) -> usize
 }
 
 /// How many rounds tell all tiles apart that can be told, and one more. Nothing rests on this number but time.
-pub fn rounds_wanted(tiles: &[Tile], labels: &Labels) -> u16
+pub fn rounds_wanted(tiles: &[Tile], labels: &Labels, sums: &mut Sums) -> u16
     requires { length tiles.now ≤ MAX_TILES }
 {
     let count = tiles.len();
@@ -193,7 +219,7 @@ pub fn rounds_wanted(tiles: &[Tile], labels: &Labels) -> u16
         if kinds == count {
             return round;
         }
-        now = next_labels(tiles, &now);
+        next_labels(tiles, &mut now, sums);
         let more = count_labels(&now, count);
         if more <= kinds {
             return round;
@@ -204,12 +230,12 @@ pub fn rounds_wanted(tiles: &[Tile], labels: &Labels) -> u16
 }
 
 /// The same once one tile is told apart, whichever it is.
-pub fn rounds_apart(tiles: &[Tile], labels: &Labels) -> u16
+pub fn rounds_apart(tiles: &[Tile], labels: &Labels, sums: &mut Sums) -> u16
     requires { length tiles.now ≤ MAX_TILES }
 {
     let mut most = 0u16;
     for t in 0..tiles.len() as u16 {
-        most = most.max(rounds_wanted(tiles, &marked(labels, t)));
+        most = most.max(rounds_wanted(tiles, &marked(labels, t), sums));
     }
     most
 }

@@ -5,7 +5,9 @@ ghost use Rattle.wt_bijection.specs.Least.{least_behind, least_renaming};
 ghost use Rattle.wt_bijection.specs.Kept.{AreKept, AreSmall};
 ghost use Rattle.wt_bijection.specs.Labels as spec;
 
-use crate::labels::{Labels, apart_labels, label_sum, marked, rounds, rounds_apart, rounds_wanted};
+use crate::labels::{
+    Labels, Sums, apart_labels, label_sum, marked, rounds, rounds_apart, rounds_wanted,
+};
 use crate::renaming::wrong_number;
 use std::alloc::{AllocError, Global};
 use wt_grid::MAX_TILES;
@@ -22,13 +24,13 @@ fn is_renaming(from: &[Tile], to: &[Tile], list: &[u16]) -> bool
 }
 
 /// The labels of tiles once tile t is told apart.
-fn labels_with(tiles: &[Tile], labels: &Labels, t: u16, count: u16) -> Labels
+fn labels_with(tiles: &[Tile], labels: &Labels, t: u16, count: u16, sums: &mut Sums) -> Labels
     requires few { length tiles.now ≤ MAX_TILES }
     requires inside { t < MAX_TILES }
     ensures value { result ≡ spec.rounds tiles.now count (spec.marked labels.now t) }
     ensures long { length result ≡ MAX_TILES }
 {
-    rounds(tiles, count, &marked(labels, t))
+    rounds(tiles, count, &marked(labels, t), sums)
 }
 
 /// Puts behind the first i numbers of the list those that make it the first renaming which begins so, and tells whether there is one.
@@ -37,6 +39,7 @@ fn seek(
     to: &[Tile],
     own: &Labels,
     other: &Labels,
+    sums: &mut Sums,
     list: &mut [u16],
     i: usize,
 ) -> bool
@@ -57,19 +60,19 @@ fn seek(
     }
     let at = i as u16;
     let first = marked(own, at);
-    let count = rounds_wanted(from, &first);
-    let next = rounds(from, count, &first);
+    let count = rounds_wanted(from, &first, sums);
+    let next = rounds(from, count, &first, sums);
     let wanted = label_sum(&next, from.len());
     for t in 0..to.len() as u16 {
         if own[i] != other[usize::from(t)] {
             continue;
         }
-        let partner = labels_with(to, other, t, count);
+        let partner = labels_with(to, other, t, count, sums);
         if label_sum(&partner, to.len()) != wanted {
             continue;
         }
         list[i] = t;
-        if seek(from, to, &next, &partner, list, i + 1) {
+        if seek(from, to, &next, &partner, sums, list, i + 1) {
             return true;
         }
     }
@@ -90,21 +93,22 @@ pub fn equivalent(
     if from.len() != to.len() {
         return Ok(None);
     }
+    let mut sums = Sums::new();
     let plain = [0u64; MAX_TILES];
-    let count = rounds_wanted(from, &plain);
-    let own = rounds(from, count, &plain);
-    let other = rounds(to, count, &plain);
+    let count = rounds_wanted(from, &plain, &mut sums);
+    let own = rounds(from, count, &plain, &mut sums);
+    let other = rounds(to, count, &plain, &mut sums);
     if label_sum(&own, from.len()) != label_sum(&other, to.len()) {
         return Ok(None);
     }
-    let apart = rounds_apart(from, &own);
-    let own = apart_labels(from, apart, &own);
-    let other = apart_labels(to, apart, &other);
+    let apart = rounds_apart(from, &own, &mut sums);
+    let own = apart_labels(from, apart, &own, &mut sums);
+    let other = apart_labels(to, apart, &other, &mut sums);
     if label_sum(&own, from.len()) != label_sum(&other, to.len()) {
         return Ok(None);
     }
     let mut list = vec![in alloc; 0u16; from.len()]?;
-    if seek(from, to, &own, &other, &mut list, 0) {
+    if seek(from, to, &own, &other, &mut sums, &mut list, 0) {
         Ok(Some(list))
     } else {
         Ok(None)

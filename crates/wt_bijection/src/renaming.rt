@@ -1,8 +1,9 @@
 // The first number of a list that spoils it as a renaming.
-ghost use Rattle.std.specs.Prelude.{◌≡◌, ◌<◌, ◌≤◌, nat_eq, length, None, Some, MatchResult, IfSome, IfErr};
+ghost use Rattle.std.specs.Prelude.{◌≡◌, ◌<◌, ◌≤◌, nat_eq, length, None, Some, IfSome, IfErr};
 ghost use Rattle.std.specs.List.{list_any};
 ghost use Rattle.wt_bijection.specs.Renaming.{pairs_up, tiles_pair_up, first_wrong};
 ghost use Rattle.wt_bijection.specs.Renaming as spec;
+ghost use Rattle.wt_grid.specs.Answers.{FailsBy};
 
 use wt_grid::{MAX_TILES, is_among};
 use wt_tile::{SetRef, Tile, tile_at};
@@ -86,9 +87,7 @@ pub(crate) fn wrong_number(from: &[Tile], to: &[Tile], list: &[u16]) -> Option<u
 /// tiles 0 to i.
 #[tactic(auto, unfolding(crate::specs::Renaming::renaming_fault))]
 pub fn check_renaming(from: SetRef<'_>, to: SetRef<'_>, list: &[u16]) -> Result<(), usize>
-    ensures exact { MatchResult result
-        (λ _. spec.renaming_fault from.entry.list.now.tiles to.entry.list.now.tiles list.now ≡ None)
-        (λ i. spec.renaming_fault from.entry.list.now.tiles to.entry.list.now.tiles list.now ≡ Some i) }
+    ensures exact { FailsBy result (spec.renaming_fault from.entry.list.now.tiles to.entry.list.now.tiles list.now) }
     ensures small { IfErr result (λ i. i ≤ MAX_TILES) }
 {
     let from = from.tiles();

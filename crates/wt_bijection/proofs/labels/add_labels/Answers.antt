@@ -1,12 +1,8 @@
-use Rattle.std.proofs.Common.{arith, ◌≡◌, ◌+◌, suc, get_or, slice_index, ap, sym, ◌∙◌, refl}
-use Rattle.std.proofs.lemmas.List.{get_or-replicate}
+use Rattle.std.proofs.Common.{arith, ◌≡◌, ◌+◌, suc, get_or, slice_index, ap, sym, ◌∙◌}
 use Rattle.wt_tile.specs.Matching.{tile_at, ahead, behind}
 use Rattle.wt_bijection.specs.Labels.{wrapped, sum_below, share, added, scrambled}
 use Rattle.wt_bijection.proofs.Sums.{added_twice}
-use Rattle.wt_bijection.proofs.labels.colour_labels.Goals as goal
-
-pub loop-i-init : goal.loop-i-init
-loop-i-init c = record { whole = refl; sums = λ k lt. get_or-replicate 512 k 0 0 lt }
+use Rattle.wt_bijection.proofs.labels.add_labels.Goals as goal
 
 pub loop-i-preserved : goal.loop-i-preserved
 loop-i-preserved c =
@@ -19,9 +15,9 @@ loop-i-preserved c =
     let stirred : c.scramble.result ≡ scrambled (slice_index labels i) = c.scramble.ensures in
     record {
       whole = c.add_to-in-loop-i.array_long;
-      sums = λ k lt.
+      added = λ k lt zero.
           let one : i + 1 ≡ suc i = omega arith in
           ap (λ s. get_or s k 0) (c.add_to-in-loop-i.ensures ∙ ap (λ s. added s c.behind.result c.scramble.result) c.add_to.ensures)
-          ∙ (added_twice c.loop-i.sums c.ahead.result (slice_index labels i) c.behind.result c.scramble.result (sum_below (share axis tiles labels k) i) k c.loop-i.invariant.whole lt (c.loop-i.invariant.sums k lt)
+          ∙ (added_twice c.loop-i.sums c.ahead.result (slice_index labels i) c.behind.result c.scramble.result (sum_below (share axis tiles labels k) i) k c.loop-i.invariant.whole lt (c.loop-i.invariant.added k lt zero)
           ∙ rw (first, second, stirred) (ap wrapped (ap (sum_below (share axis tiles labels k)) (sym one))));
     }
