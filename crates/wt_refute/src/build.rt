@@ -1,5 +1,5 @@
 //! Standard trees, built.
-ghost use Rattle.std.specs.Prelude.{◌≡◌, ◌^◌, ◌<◌, ◌≤◌, length, IfOk, IsErrOf, true};
+ghost use Rattle.std.specs.Prelude.{◌≡◌, ◌^◌, ◌<◌, ◌≤◌, ◌++◌, ◌∷◌, [], length, IfOk, OnOk, IsErrOf, true};
 ghost use Rattle.wt_tile.specs.Matching.{matches};
 ghost use Rattle.wt_refute.specs.Refutation.{node_count, branch, no_more};
 ghost use Rattle.wt_refute.specs.View.{refutation};
@@ -34,6 +34,16 @@ fn leaf(alloc: Global) -> Tree
     Tree::Branch {
         cell: 0,
         children: Items::new(alloc),
+    }
+}
+
+fn add_child(children: &mut Items<Child>, tile: u16, tree: Tree) -> Result<(), BuildEnd>
+    ensures ok { OnOk result (children.new ≡ children.old ++ (record { tile = tile; tree = tree }) ∷ []) }
+    ensures unspent { IsErrOf result BuildEnd.Spent → ⊥ }
+{
+    match children.push(Child { tile, tree }) {
+        Ok(()) => Ok(()),
+        Err(_) => Err(BuildEnd::OutOfMemory),
     }
 }
 
@@ -87,14 +97,8 @@ fn grow(
         match grown {
             Err(end) => return Err(end),
             Ok((tree, rest)) => {
-                let child = Child {
-                    tile: tile as u16,
-                    tree,
-                };
-                match children.push(child) {
-                    Ok(()) => left = rest,
-                    Err(_) => return Err(BuildEnd::OutOfMemory),
-                }
+                add_child(&mut children, tile as u16, tree)?;
+                left = rest;
             }
         }
         from = tile + 1;

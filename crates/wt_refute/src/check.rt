@@ -1,13 +1,12 @@
 //! The checker of refutation trees.
-ghost use Rattle.std.specs.Prelude.{◌≡◌, ℕ, ◌+◌, ◌-◌, ◌*◌, ◌^◌, ◌<◌, ◌≤◌, [], ◌∷◌, length, MatchResult, None, Some, replicate, true};
-ghost use Rattle.std.specs.Option.{option_map};
+ghost use Rattle.std.specs.Prelude.{◌≡◌, ℕ, ◌+◌, ◌-◌, ◌*◌, ◌^◌, ◌<◌, ◌≤◌, [], ◌∷◌, length, None, Some, replicate, true};
 ghost use Rattle.wt_refute.specs.Refutation.{node_count, tiles_in, held};
 ghost use Rattle.wt_refute.specs.View.{refutation, children_view};
 ghost use Rattle.wt_pattern.specs.Windows.{window_size};
 ghost use Rattle.wt_refute.specs.Placed.{placed, window_of, tile_window};
 ghost use Rattle.wt_refute.specs.Placed as placed_words;
 ghost use Rattle.wt_refute.specs.Entries.{ascends};
-ghost use Rattle.wt_refute.specs.Refutes.{first_wrong, tree_fault, tile_tree_fault};
+ghost use Rattle.wt_refute.specs.Refutes.{first_wrong, tree_fault, tile_tree_fault, FaultsAt, IsWalk};
 ghost use Rattle.wt_refute.specs.Refutes as refutes;
 
 use crate::fitting::fit_mask;
@@ -128,9 +127,9 @@ fn walk(
     requires radius { radius ≤ 4 }
     requires in_order { ascends known.now ≡ true }
     ensures same { cells.new ≡ cells.old }
-    ensures judged { MatchResult result
-        (λ count. (first_wrong sides.now.tiles.now radius known.now (placed shape cells.old) (refutation tree.now) ≡ None) × (count ≡ held (node_count (refutation tree.now))))
-        (λ fault. option_map held (first_wrong sides.now.tiles.now radius known.now (placed shape cells.old) (refutation tree.now)) ≡ Some fault.node) }
+    ensures judged { IsWalk result
+        (first_wrong sides.now.tiles.now radius known.now (placed shape cells.old) (refutation tree.now))
+        (held (node_count (refutation tree.now))) }
 {
     match tree {
         Tree::Cite { cell, axis } => {
@@ -216,9 +215,7 @@ pub fn check_tree(
 ) -> Result<(), TreeFault>
     requires radius { radius ≤ 4 }
     requires in_order { ascends known.now ≡ true }
-    ensures { MatchResult result
-        (λ _. tree_fault set.entry.list.now.tiles axis a b radius known.now tree.now ≡ None)
-        (λ fault. tree_fault set.entry.list.now.tiles axis a b radius known.now tree.now ≡ Some fault.node) }
+    ensures { FaultsAt result (tree_fault set.entry.list.now.tiles axis a b radius known.now tree.now) }
 {
     check_tree_in(&Sides::new(set.tiles()), axis, a, b, radius, known, tree)
 }
@@ -236,9 +233,7 @@ pub fn check_tree_in(
 ) -> Result<(), TreeFault>
     requires radius { radius ≤ 4 }
     requires in_order { ascends known.now ≡ true }
-    ensures { MatchResult result
-        (λ _. tree_fault sides.now.tiles.now axis a b radius known.now tree.now ≡ None)
-        (λ fault. tree_fault sides.now.tiles.now axis a b radius known.now tree.now ≡ Some fault.node) }
+    ensures { FaultsAt result (tree_fault sides.now.tiles.now axis a b radius known.now tree.now) }
 {
     let shape = window_shape(axis, radius);
     let mut all = free_cells();
@@ -255,9 +250,7 @@ pub fn check_tree_in(
 /// Takes no memory.
 pub fn check_tile_tree(set: SetRef<'_>, tile: u16, radius: u8, tree: &Tree) -> Result<(), TreeFault>
     requires { radius ≤ 4 }
-    ensures { MatchResult result
-        (λ _. tile_tree_fault set.entry.list.now.tiles tile radius tree.now ≡ None)
-        (λ fault. tile_tree_fault set.entry.list.now.tiles tile radius tree.now ≡ Some fault.node) }
+    ensures { FaultsAt result (tile_tree_fault set.entry.list.now.tiles tile radius tree.now) }
 {
     check_tile(set.tiles(), tile, radius, tree)
 }
@@ -267,9 +260,7 @@ pub fn check_tile_tree(set: SetRef<'_>, tile: u16, radius: u8, tree: &Tree) -> R
 fn check_tile(tiles: &[Tile], tile: u16, radius: u8, tree: &Tree) -> Result<(), TreeFault>
     requires radius { radius ≤ 4 }
     requires few { length tiles.now ≤ MAX_TILES }
-    ensures { MatchResult result
-        (λ _. tile_tree_fault tiles.now tile radius tree.now ≡ None)
-        (λ fault. tile_tree_fault tiles.now tile radius tree.now ≡ Some fault.node) }
+    ensures { FaultsAt result (tile_tree_fault tiles.now tile radius tree.now) }
 {
     let border = usize::from(radius);
     let side = border + border + 1;

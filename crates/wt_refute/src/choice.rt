@@ -59,7 +59,7 @@ pub fn first_citation(
 ) -> Option<(u16, Axis)>
     requires wide { 0 < shape.0 }
     requires small { shape.0 < 2 ^ 32 }
-    requires few { length cells.now ≤ 65536 }
+    requires few_cells { length cells.now ≤ MAX_CELLS }
     requires radius { radius ≤ 4 }
     requires in_order { ascends known.now ≡ true }
     ensures { result ≡ spec.first_citation radius known.now (placed shape cells.now) }

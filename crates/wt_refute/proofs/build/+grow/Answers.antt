@@ -63,8 +63,8 @@ returns-in-Err-clause-spent t c = λ e.
     let far = over c.args.sides.now.tiles.now c.args.radius c.args.known.now (placed c.args.shape c.tiles.cells) (tree_at c.args.sides.now.tiles.now c.args.radius c.args.known.now (c.args.depth - 1) (placed c.args.shape c.tiles.cells) c.from-at.result) (children_view c.tiles.children) _ c.from-at.result c.in-Some-next_bit.tile (length c.args.sides.now.tiles.now) c.tiles.left c.args.budget fit.0 fit.1 made c.tiles.invariant.spent short in
     rw whole (subst (λ (cells : List (Option ℕ)). c.args.budget < 1 + count_in (branches_with (tree_at c.args.sides.now.tiles.now c.args.radius c.args.known.now (c.args.depth - 1) (placed c.args.shape cells) c.from-at.result) (fitting c.args.sides.now.tiles.now (placed c.args.shape cells) c.from-at.result))) c.tiles.invariant.same far)
 
-pub returns-in-Err-push-clause-same : goal.returns-in-Err-push-clause-same
-returns-in-Err-push-clause-same t c =
+pub returns-in_err-add_child-in-Ok-clause-same : goal.returns-in_err-add_child-in-Ok-clause-same
+returns-in_err-add_child-in-Ok-clause-same t c =
     taken_back c.tiles.cells c.grow-grown.new.cells c.args.cells.now c.from-at.result (Some c.in-Some-next_bit.tile) (c.grow-grown.ensures.same ∙ c.put.ensures.filled) c.tiles.invariant.free c.tiles.invariant.same
 
 pub tiles-preserved : goal.tiles-preserved
@@ -77,7 +77,7 @@ tiles-preserved t c =
     let so_far = ap (λ (xs : List ℕ). join (children_view c.tiles.children) (branches_with (tree_at c.args.sides.now.tiles.now c.args.radius c.args.known.now (c.args.depth - 1) (placed c.args.shape c.tiles.cells) c.from-at.result) xs)) (sym next) ∙ c.tiles.invariant.made in
     let grown = subst (λ (cells : List (Option ℕ)). (Rattle.wt_refute.specs.View.refutation c.in-Ok.tree ≡ tree_within c.args.sides.now.tiles.now c.args.radius c.args.known.now (c.args.depth - 1) (placed c.args.shape cells))
     × (c.in-Ok.rest + node_count (tree_within c.args.sides.now.tiles.now c.args.radius c.args.known.now (c.args.depth - 1) (placed c.args.shape cells)) ≡ c.tiles.left)) c.put.ensures.filled c.in-Ok.ensures.ok in
-    let pushed : c.push.new.self ≡ c.tiles.children ++ (record { tile = c.in-Some-next_bit.tile; tree = c.in-Ok.tree }) ∷ [] = c.in-Ok-push.ensures.ok in
+    let pushed : c.add_child.new.children ≡ c.tiles.children ++ (record { tile = c.in-Some-next_bit.tile; tree = c.in-Ok.tree }) ∷ [] = c.in_ok-add_child-in-Ok.ensures.ok in
     let made = take_on c.args.sides.now.tiles.now c.args.radius c.args.known.now (placed c.args.shape c.tiles.cells) (tree_at c.args.sides.now.tiles.now c.args.radius c.args.known.now (c.args.depth - 1) (placed c.args.shape c.tiles.cells) c.from-at.result) c.tiles.children (record { tile = c.in-Some-next_bit.tile; tree = c.in-Ok.tree }) _ c.from-at.result c.in-Some-next_bit.tile (length c.args.sides.now.tiles.now) fit.0 fit.1 refl grown.0 so_far in
     record {
       same = back;
@@ -85,7 +85,7 @@ tiles-preserved t c =
       free = rw e c.tiles.invariant.free;
       fit = rw e c.tiles.invariant.fit;
       low = omega (arith, fit.0);
-      made = subst (λ (cells : List (Option ℕ)). join (children_view c.push.new.self) (branches_with (tree_at c.args.sides.now.tiles.now c.args.radius c.args.known.now (c.args.depth - 1) (placed c.args.shape cells) c.from-at.result) (passing (fits_cell c.args.sides.now.tiles.now (placed c.args.shape cells) c.from-at.result) (c.in-Some-next_bit.tile + 1) (length c.args.sides.now.tiles.now - (c.in-Some-next_bit.tile + 1))))
+      made = subst (λ (cells : List (Option ℕ)). join (children_view c.add_child.new.children) (branches_with (tree_at c.args.sides.now.tiles.now c.args.radius c.args.known.now (c.args.depth - 1) (placed c.args.shape cells) c.from-at.result) (passing (fits_cell c.args.sides.now.tiles.now (placed c.args.shape cells) c.from-at.result) (c.in-Some-next_bit.tile + 1) (length c.args.sides.now.tiles.now - (c.in-Some-next_bit.tile + 1))))
           ≡ branches_with (tree_at c.args.sides.now.tiles.now c.args.radius c.args.known.now (c.args.depth - 1) (placed c.args.shape cells) c.from-at.result) (fitting c.args.sides.now.tiles.now (placed c.args.shape cells) c.from-at.result)) (sym e)
           (rw pushed made);
       spent = rw pushed (paid c.args.sides.now.tiles.now c.args.radius c.args.known.now (placed c.args.shape c.tiles.cells) c.tiles.children (record { tile = c.in-Some-next_bit.tile; tree = c.in-Ok.tree }) _ c.tiles.left c.in-Ok.rest c.args.budget grown.0 grown.1 c.tiles.invariant.spent);
