@@ -1,5 +1,6 @@
 -- Scaffolding: windows as a search of them holds them: a mask of tiles for each cell.
-use Rattle.std.specs.Prelude.{◌≡◌, ℕ, suc, ◌+◌, ◌-◌, ◌*◌, ◌%◌, ◌<◌, ◌≤◌, true, ◌&&◌, nat_lt, nat_le, if◌then◌else◌, Option, None, Some, List, length, take, slice_index}
+use Rattle.std.specs.Int.{bit_at}
+use Rattle.std.specs.Prelude.{◌≡◌, ℕ, Bool, suc, ◌+◌, ◌-◌, ◌*◌, ◌%◌, ◌<◌, ◌≤◌, true, ◌&&◌, nat_lt, nat_le, if◌then◌else◌, Option, None, Some, List, length, take, slice_index}
 use Rattle.wt_grid.specs.declared.axis.Axis.TheVariants.{One, Two}
 use Rattle.wt_grid.specs.declared.axis.Axis.{Axis}
 use Rattle.wt_tile.specs.declared.tile.Tile.{Tile}
@@ -77,3 +78,26 @@ HasAllFrom ts f at filled masks = (g : List ℕ) → IsWhole ts f g → take at 
 pub record IsNext (ts : List Tile) (w : Window) (f : List ℕ) (t : ℕ) : Type 0 where
   pub low : t < length ts
   pub follow : may_follow ts w f t ≡ true
+
+-- the mask has exactly those of the first n tiles that pass the test
+abbrev pub HasThose : ℕ → (ℕ → Bool) → List ℕ → Type 0
+HasThose n passes mask = (t : ℕ) → mask_bit mask t ≡ bit (nat_lt t n && passes t)
+
+-- the mask has exactly the tiles that pass the test behind the filling
+abbrev pub HasThoseBehind : (List Tile → Window → List ℕ → ℕ → Bool) → List Tile → Window → List ℕ → List ℕ → Type 0
+HasThoseBehind passes ts w f mask = HasThose (length ts) (passes ts w f) mask
+
+-- the mask has each tile that the table has for a tile of a word of 64, from a first one on
+abbrev pub HasWordsTiles : List (List ℕ) → ℕ → ℕ → List ℕ → Type 0
+HasWordsTiles table first word mask =
+    (j u : ℕ) → j < 64 → first + j < length table → bit_at word j ≡ 1 → mask_bit (mask_at table (first + j)) u ≡ 1 → mask_bit mask u ≡ 1
+
+-- the mask has each tile that the table has for a tile of another
+abbrev pub HasSupport : List (List ℕ) → List ℕ → List ℕ → Type 0
+HasSupport table other mask =
+    (t u : ℕ) → t < length table → mask_bit other t ≡ 1 → mask_bit (mask_at table t) u ≡ 1 → mask_bit mask u ≡ 1
+
+-- the new mask has each tile of the old one that the table has for a tile of another
+abbrev pub KeepsSupported : List (List ℕ) → List ℕ → List ℕ → List ℕ → Type 0
+KeepsSupported table other old new =
+    (t u : ℕ) → t < length table → mask_bit other t ≡ 1 → mask_bit (mask_at table t) u ≡ 1 → mask_bit old u ≡ 1 → mask_bit new u ≡ 1

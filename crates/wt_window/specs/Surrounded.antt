@@ -1,5 +1,5 @@
 -- Which pairs of tiles have a window, and the least window in reading order.
-use Rattle.std.specs.Prelude.{◌≡◌, ◌⊎◌, ◌↔◌, ℕ, ◌<◌, Bool, true, nat_eq, nat_lt, List, length}
+use Rattle.std.specs.Prelude.{◌≡◌, ◌⊎◌, ◌↔◌, ℕ, ◌<◌, ◌≤◌, Bool, true, false, nat_eq, nat_lt, List, length}
 use Rattle.wt_grid.specs.Order.{IsBefore}
 use Rattle.wt_grid.specs.declared.axis.Axis.TheVariants.{One, Two}
 use Rattle.wt_grid.specs.declared.axis.Axis.{Axis}
@@ -57,3 +57,12 @@ pub record IsFirstMatch (ts : List Tile) (axis : Axis) (a b : ℕ) : Type 0 wher
   pub fits : matches ts axis a b ≡ true
   pub none_before : (c d : ℕ) → c < a → d < length ts → matches ts axis c d ≡ true → ⊥
   pub none_beside : (d : ℕ) → d < b → matches ts axis a d ≡ true → ⊥
+
+-- no tile from this one on may follow a
+abbrev pub NoneFollows : List (List ℕ) → ℕ → ℕ → Type 0
+NoneFollows rows a from = (b : ℕ) → from ≤ b → allowed rows a b ≡ false
+
+-- b is the least tile from this one on that may follow a
+abbrev pub IsNextAfter : List (List ℕ) → ℕ → ℕ → ℕ → Type 0
+IsNextAfter rows a from b =
+    (from ≤ b) × (allowed rows a b ≡ true) × ((c : ℕ) → from ≤ c → c < b → allowed rows a c ≡ false)

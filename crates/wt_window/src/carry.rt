@@ -1,9 +1,8 @@
 //! What the mask of one cell says of the masks beside it, carried on until nothing changes.
-ghost use Rattle.std.specs.Prelude.{◌≡◌, ◌≢◌, ℕ, ◌+◌, ◌*◌, ◌<◌, ◌≤◌, List, length, false, Option, None};
-ghost use Rattle.std.specs.Int.{bit_at};
+ghost use Rattle.std.specs.Prelude.{◌≡◌, ◌≢◌, ℕ, ◌+◌, ◌*◌, ◌<◌, ◌≤◌, List, false, Option, None};
 ghost use Rattle.wt_lane.specs.Masks.{mask_bit};
 ghost use Rattle.wt_mask.specs.Masks.{mask_at};
-ghost use Rattle.wt_window.specs.Frames.{IsBox, HasAllOf, HasNoFilling};
+ghost use Rattle.wt_window.specs.Frames.{IsBox, HasAllOf, HasNoFilling, HasWordsTiles, HasSupport, KeepsSupported};
 
 use crate::frame::{Frame, beside};
 use crate::tables::Tables;
@@ -28,7 +27,7 @@ const WAYS: [Way; 4] = [Way::Right, Way::Left, Way::Up, Way::Down];
 fn join_word(table: &[[u64; 4]], first: usize, word: u64, all: &mut [u64; 4])
     requires { first ≤ 192 }
     ensures old { (u : ℕ) → mask_bit all.old u ≡ 1 → mask_bit all.new u ≡ 1 }
-    ensures joined { (j u : ℕ) → j < 64 → first + j < length table.now → bit_at word j ≡ 1 → mask_bit (mask_at table.now (first + j)) u ≡ 1 → mask_bit all.new u ≡ 1 }
+    ensures joined { HasWordsTiles table.now first word all.new }
 {
     let mut rest = word;
     'bits: while rest != 0 {
@@ -43,7 +42,7 @@ fn join_word(table: &[[u64; 4]], first: usize, word: u64, all: &mut [u64; 4])
 
 /// The tiles that may stand beside one of a mask.
 fn support(table: &[[u64; 4]], mask: &[u64; 4]) -> [u64; 4]
-    ensures { (t u : ℕ) → t < length table.now → mask_bit mask.now t ≡ 1 → mask_bit (mask_at table.now t) u ≡ 1 → mask_bit result u ≡ 1 }
+    ensures { HasSupport table.now mask.now result }
 {
     let mut all = [0u64; 4];
     for word in 0..4 {
@@ -57,8 +56,7 @@ fn narrow(table: &[[u64; 4]], masks: &mut [[u64; 4]; MAX_CELLS], from: usize, to
     requires from { from < MAX_CELLS }
     requires to { to < MAX_CELLS }
     ensures others { (k : ℕ) → k ≢ to → mask_at masks.new k ≡ mask_at masks.old k }
-    ensures kept { (t u : ℕ) → t < length table.now → mask_bit (mask_at masks.old from) t ≡ 1 → mask_bit (mask_at table.now t) u ≡ 1
-        → mask_bit (mask_at masks.old to) u ≡ 1 → mask_bit (mask_at masks.new to) u ≡ 1 }
+    ensures kept { KeepsSupported table.now (mask_at masks.old from) (mask_at masks.old to) (mask_at masks.new to) }
     ensures nothing { result ≡ Change.Nothing → (u : ℕ) → u < 256 → mask_bit (mask_at masks.new to) u ≡ 1 → ⊥ }
 {
     let mut mask = support(table, &masks[from]);

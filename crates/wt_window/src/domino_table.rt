@@ -1,8 +1,8 @@
 //! Tables of the pairs that have a window.
-ghost use Rattle.std.specs.Prelude.{◌≡◌, ℕ, ◌<◌, ◌≤◌, List, length, true, false, Err, IfOk, MatchOption};
+ghost use Rattle.std.specs.Prelude.{◌≡◌, ℕ, ◌<◌, ◌≤◌, List, length, false, Err, IfOk, MatchOption};
 ghost use Rattle.wt_window.specs.Trials.{window, cells};
 ghost use Rattle.wt_window.specs.Frames.{HasAllFillings};
-ghost use Rattle.wt_window.specs.Surrounded.{IsRow, IsSpentRow, IsUnmatched, allowed};
+ghost use Rattle.wt_window.specs.Surrounded.{IsRow, IsSpentRow, IsUnmatched, allowed, NoneFollows, IsNextAfter};
 ghost use Rattle.wt_window.specs.Outcomes.{MayAnswerTable};
 
 use crate::search::{Found, blocks_for, find, open_masks};
@@ -57,9 +57,7 @@ impl DominoTable {
     /// The least tile from `from` on that may follow a, or None where none may. Whoever walks the tiles a upwards,
     /// and for each a the tiles that may follow it, meets the pairs in order. Takes no memory.
     pub fn next_after(&self, a: u16, from: u16) -> Option<u16>
-        ensures { MatchOption result
-            ((b : ℕ) → from ≤ b → allowed self.now a b ≡ false)
-            (λ b. (from ≤ b) × (allowed self.now a b ≡ true) × ((c : ℕ) → from ≤ c → c < b → allowed self.now a c ≡ false)) }
+        ensures { MatchOption result (NoneFollows self.now a from) (IsNextAfter self.now a from) }
     {
         let a = usize::from(a);
         if a >= self.rows.len() {

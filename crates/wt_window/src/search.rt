@@ -1,13 +1,13 @@
 //! The search of a window, depth first in reading order.
-ghost use Rattle.std.specs.Prelude.{◌≡◌, ◌≢◌, ◌⊎◌, ℕ, ◌+◌, ◌-◌, ◌*◌, ◌%◌, ◌<◌, ◌≤◌, ◌&&◌, true, List, length, take, slice_index, slice_set, nat_lt, nat_eq, IfOk};
-ghost use Rattle.wt_grid.specs.Order.{IsBefore};
+ghost use Rattle.std.specs.Prelude.{◌≡◌, ◌≢◌, ℕ, ◌+◌, ◌-◌, ◌*◌, ◌%◌, ◌<◌, ◌≤◌, true, List, length, take, slice_index, slice_set, nat_eq, IfOk};
 ghost use Rattle.wt_lane.specs.Masks.{mask_bit};
-ghost use Rattle.wt_window.specs.Trials.{IsFilling, cells, may_follow, implies, trials_from, trials};
+ghost use Rattle.wt_window.specs.Trials.{IsFilling, cells, may_follow, implies, trials, trials_after, shaped};
 ghost use Rattle.wt_window.specs.Trials as spec;
-ghost use Rattle.wt_mask.specs.Masks.{bit, mask_at};
-ghost use Rattle.wt_window.specs.Frames.{frame_window, Stand, IsFrame, IsNext, IsWhole, HasAllFillings, HasAllFrom};
+ghost use Rattle.wt_mask.specs.Masks.{mask_at};
+ghost use Rattle.wt_window.specs.Frames.{frame_window, Stand, IsFrame, IsNext, IsWhole, HasAllFillings, HasAllFrom, HasThose, HasThoseBehind};
 ghost use Rattle.wt_window.specs.Surrounded.{IsLeastWindow};
 ghost use Rattle.wt_pattern.specs.Windows.{IsEmptyWindow};
+ghost use Rattle.wt_window.specs.Begun.{Leads, LeadsBegun, NoneBegun};
 
 use crate::carry::propagate;
 use crate::frame::{Frame, frame_of};
@@ -32,7 +32,7 @@ fn beside_left(tables: &Tables<'_>, frame: &Frame, filled: &[u16], at: usize) ->
     requires frame { IsFrame (length tables.now.tiles.now) (frame_window frame.now) }
     requires within { at < length filled.now }
     requires tiles { (k : ℕ) → k < at → slice_index filled.now k < length tables.now.tiles.now }
-    ensures { (t : ℕ) → mask_bit result t ≡ bit (nat_lt t (length tables.now.tiles.now) && spec.fits_left tables.now.tiles.now (frame_window frame.now) (take at filled.now) t) }
+    ensures { HasThoseBehind spec.fits_left tables.now.tiles.now (frame_window frame.now) (take at filled.now) result }
 {
     if at % frame.width > 0 {
         tables.right[usize::from(filled[at - 1])]
@@ -46,7 +46,7 @@ fn beside_below(tables: &Tables<'_>, frame: &Frame, filled: &[u16], at: usize) -
     requires frame { IsFrame (length tables.now.tiles.now) (frame_window frame.now) }
     requires within { at < length filled.now }
     requires tiles { (k : ℕ) → k < at → slice_index filled.now k < length tables.now.tiles.now }
-    ensures { (t : ℕ) → mask_bit result t ≡ bit (nat_lt t (length tables.now.tiles.now) && spec.fits_below tables.now.tiles.now (frame_window frame.now) (take at filled.now) t) }
+    ensures { HasThoseBehind spec.fits_below tables.now.tiles.now (frame_window frame.now) (take at filled.now) result }
 {
     if frame.width <= at {
         tables.up[usize::from(filled[at - frame.width])]
@@ -58,7 +58,7 @@ fn beside_below(tables: &Tables<'_>, frame: &Frame, filled: &[u16], at: usize) -
 /// The one tile that may stand in a cell if it is this one, else all tiles.
 fn pinned(tables: &Tables<'_>, cell: usize, tile: u16, at: usize) -> [u64; 4]
     requires { tile < length tables.now.tiles.now }
-    ensures { (t : ℕ) → mask_bit result t ≡ bit (nat_lt t (length tables.now.tiles.now) && implies (nat_eq at cell) (nat_eq t tile)) }
+    ensures { HasThose (length tables.now.tiles.now) (λ t. implies (nat_eq at cell) (nat_eq t tile)) result }
 {
     if at == cell {
         single(usize::from(tile))
@@ -72,7 +72,7 @@ fn followers(tables: &Tables<'_>, frame: &Frame, filled: &[u16], at: usize) -> [
     requires frame { IsFrame (length tables.now.tiles.now) (frame_window frame.now) }
     requires within { at < length filled.now }
     requires tiles { (k : ℕ) → k < at → slice_index filled.now k < length tables.now.tiles.now }
-    ensures { (t : ℕ) → mask_bit result t ≡ bit (nat_lt t (length tables.now.tiles.now) && may_follow tables.now.tiles.now (frame_window frame.now) (take at filled.now) t) }
+    ensures { HasThoseBehind may_follow tables.now.tiles.now (frame_window frame.now) (take at filled.now) result }
 {
     let mut mask = beside_left(tables, frame, filled, at);
     and_into(&mut mask, &beside_below(tables, frame, filled, at));
@@ -151,15 +151,12 @@ fn search(
     requires whole { HasAllFrom tables.now.tiles.now frame.now at filled.old masks.old }
     ensures same { take at filled.new ≡ take at filled.old }
     ensures window { result ≡ Found.Window → IsWhole tables.now.tiles.now frame.now filled.new }
-    ensures least { result ≡ Found.Window → (g : List ℕ) → IsWhole tables.now.tiles.now frame.now g
-        → take at g ≡ take at filled.old → (filled.new ≡ g) ⊎ IsBefore filled.new g }
-    ensures nothing { (left : ℕ) → result ≡ Found.Nothing left → (g : List ℕ) → IsWhole tables.now.tiles.now frame.now g
-        → take at g ≡ take at filled.old → ⊥ }
+    ensures least { result ≡ Found.Window → LeadsBegun at filled.old (IsWhole tables.now.tiles.now frame.now) filled.new }
+    ensures nothing { (left : ℕ) → result ≡ Found.Nothing left → NoneBegun at filled.old (IsWhole tables.now.tiles.now frame.now) }
     ensures paid { (left : ℕ) → result ≡ Found.Nothing left
-        → budget ≤ left + trials_from tables.now.tiles.now (frame_window frame.now) (cells (frame_window frame.now) - at) (take at filled.old) }
+        → budget ≤ left + trials_after tables.now.tiles.now (frame_window frame.now) at filled.old }
     ensures at_zero { budget ≡ 0 → result ≡ Found.Spent }
-    ensures spent { result ≡ Found.Spent
-        → budget < trials_from tables.now.tiles.now (frame_window frame.now) (cells (frame_window frame.now) - at) (take at filled.old) }
+    ensures spent { result ≡ Found.Spent → budget < trials_after tables.now.tiles.now (frame_window frame.now) at filled.old }
 {
     if budget == 0 {
         return Found::Spent;
@@ -219,8 +216,7 @@ fn find_in(
     requires long { length filled.old ≡ cells (frame_window frame.now) }
     requires room { length filled.old < length blocks.old }
     ensures window { result ≡ Found.Window → IsWhole tables.now.tiles.now frame.now filled.new }
-    ensures least { result ≡ Found.Window → (g : List ℕ) → IsWhole tables.now.tiles.now frame.now g
-        → (filled.new ≡ g) ⊎ IsBefore filled.new g }
+    ensures least { result ≡ Found.Window → Leads (IsWhole tables.now.tiles.now frame.now) filled.new }
     ensures nothing { (left : ℕ) → result ≡ Found.Nothing left → (g : List ℕ) → IsWhole tables.now.tiles.now frame.now g → ⊥ }
     ensures at_zero { budget ≡ 0 → result ≡ Found.Spent }
     ensures spent { result ≡ Found.Spent → budget < trials tables.now.tiles.now (frame_window frame.now) }
@@ -267,7 +263,7 @@ pub fn find(
     requires long { length filled.old ≡ cells (spec.window axis a b radius) }
     requires room { length filled.old < length blocks.old }
     ensures window { result ≡ Found.Window
-        → IsLeastWindow tables.now.tiles.now axis a b radius (record { width = (spec.window axis a b radius).width; height = (spec.window axis a b radius).height; cells = filled.new }) }
+        → IsLeastWindow tables.now.tiles.now axis a b radius (shaped (spec.window axis a b radius) filled.new) }
     ensures nothing { (left : ℕ) → result ≡ Found.Nothing left → IsEmptyWindow tables.now.tiles.now axis a b radius }
     ensures at_zero { budget ≡ 0 → result ≡ Found.Spent }
     ensures spent { result ≡ Found.Spent → budget < trials tables.now.tiles.now (spec.window axis a b radius) }
