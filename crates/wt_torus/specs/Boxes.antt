@@ -38,3 +38,7 @@ is_rotation r = is_between (top r.move1) r.move1.d r.width && is_between (top r.
 -- strictly inside the box
 abbrev pub is_in_box : Rotation → Spot → Bool
 is_in_box r z = is_between z.x z.d r.width && is_between z.y z.d r.height
+
+-- the box with these sides and moves
+abbrev pub rotation : Fraction → Fraction → Fraction → Fraction → Rotation
+rotation width height move1 move2 = record { width = width; height = height; move1 = move1; move2 = move2 }

@@ -58,3 +58,17 @@ pub record IsFirstReturn (length move t : Whole) : Type 0 where
   pub first : turns (window length move).size length move t ≡ 2 → IsInside (window length move).size (step length move t) → ⊥
   pub single : IsInZone (window length move) (window length move).single_below t → turns (window length move).size length move t ≡ 1
   pub double : IsInZone (window length move) (not (window length move).single_below) t → turns (window length move).size length move t ≡ 2
+
+-- a move above 0 and below the length
+pub record IsMove (length move : Whole) : Type 0 where
+  pub some : is_positive move ≡ true
+  pub less : is_positive (minus length move) ≡ true
+
+-- from 0 on, and below the size of the window
+abbrev pub IsInsideWindow : Whole → Whole → Whole → Type 0
+IsInsideWindow length move t = IsInside (window length move).size t
+
+-- n returns of a coordinate end where n turns of the window's rotation do
+abbrev pub ReturnsAreTurns : Whole → Whole → Whole → ℕ → Type 0
+ReturnsAreTurns length move t n =
+    orbit length move t (returns (window length move) length move t n) ≡ orbit (window length move).size (window length move).move t n

@@ -1,5 +1,5 @@
 //! Codes of points: the letters of their turns along both axes.
-ghost use Rattle.std.specs.Prelude.{◌≡◌, ◌≤◌, ◌<◌, ◌^◌, ◌*◌, ◌⊎◌, ◌++◌, [], ◌∷◌, None, Some, slice_index_or, MatchResult, IfOk, OnOk, IfErr, length};
+ghost use Rattle.std.specs.Prelude.{◌≡◌, ◌≤◌, ◌<◌, ◌^◌, ◌*◌, ◌++◌, [], ◌∷◌, None, Some, slice_index_or, IfOk, OnOk, IfErr, length};
 ghost use Rattle.wt_grid.specs.Grid.{listed};
 ghost use Rattle.wt_grid.specs.First.{first_from};
 ghost use Rattle.wt_golden.specs.Sizes.{IsBelow};
@@ -8,8 +8,9 @@ ghost use Rattle.wt_golden.specs.Whole as whole;
 ghost use Rattle.wt_plane.specs.HalfPlanes.{x_of, y_of};
 ghost use Rattle.wt_torus.specs.Codes.{IsCode, code_fault, code_of, coordinate_within, letter_fault, row_fault};
 ghost use Rattle.wt_torus.specs.Codes as codes;
-ghost use Rattle.wt_torus.specs.Cells.{label_in, place_fault, place_label, line_fault, index_label};
+ghost use Rattle.wt_torus.specs.Cells.{label_in, line_fault, label_at, fault_at, line_labels, all_labels, lines_fault};
 ghost use Rattle.wt_torus.specs.Cells as cell_words;
+ghost use Rattle.wt_grid.specs.Answers.{FailsByOr, GivesUnless};
 
 use crate::coded::{CodeFault, code_point};
 use crate::partition::is_below;
@@ -59,9 +60,7 @@ fn letter_at(p: &Partition, x: Option<Golden>, y: Option<Golden>) -> Option<Lett
 
 // The label of a letter, or what it is a fault of at cell (x, y).
 fn labelled(letter: Option<Letter>, x: usize, y: usize) -> Result<u16, CodeFault>
-    ensures { MatchResult result
-        (λ a. (letter_fault x y letter ≡ None) × (a ≡ label_in letter))
-        (λ e. letter_fault x y letter ≡ Some e) }
+    ensures { GivesUnless result (label_in letter) (letter_fault x y letter) }
 {
     match letter {
         None => Err(CodeFault::TooLarge),
@@ -99,10 +98,8 @@ fn push_cell(
 ) -> Result<(), CodeFault>
     requires column { i < length xs.now }
     requires row { j < length ys.now }
-    ensures ok { OnOk result (cells.new.items ≡ cells.old.items ++ (place_label p.now xs.now (slice_index_or ys.now j None) i ∷ [])) }
-    ensures fault { MatchResult result
-        (λ _. place_fault p.now xs.now (slice_index_or ys.now j None) j i ≡ None)
-        (λ e. (place_fault p.now xs.now (slice_index_or ys.now j None) j i ≡ Some e) ⊎ (e ≡ CodeFault.OutOfMemory)) }
+    ensures ok { OnOk result (cells.new.items ≡ cells.old.items ++ (label_at p.now xs.now ys.now j i ∷ [])) }
+    ensures fault { FailsByOr result (fault_at p.now xs.now ys.now j i) CodeFault.OutOfMemory }
 {
     let letter = letter_at(p, coordinate_at(xs, i), coordinate_at(ys, j));
     match labelled(letter, i, j) {
@@ -121,10 +118,8 @@ fn push_row(
     cells: &mut Vec<u16>,
 ) -> Result<(), CodeFault>
     requires { j < length ys.now }
-    ensures ok { OnOk result (cells.new.items ≡ cells.old.items ++ listed (length xs.now) (place_label p.now xs.now (slice_index_or ys.now j None))) }
-    ensures fault { MatchResult result
-        (λ _. line_fault p.now xs.now ys.now j ≡ None)
-        (λ e. (line_fault p.now xs.now ys.now j ≡ Some e) ⊎ (e ≡ CodeFault.OutOfMemory)) }
+    ensures ok { OnOk result (cells.new.items ≡ cells.old.items ++ line_labels p.now xs.now ys.now j) }
+    ensures fault { FailsByOr result (line_fault p.now xs.now ys.now j) CodeFault.OutOfMemory }
 {
     for i in 0..xs.len() {
         push_cell(p, xs, ys, i, j, cells)?;
@@ -141,10 +136,8 @@ fn labels(
 ) -> Result<Vec<u16>, CodeFault>
     requires wide { length xs.now ≤ MAX_SIDE }
     requires high { length ys.now ≤ MAX_SIDE }
-    ensures cells { IfOk result (λ cells. cells.items ≡ listed (length ys.now * length xs.now) (index_label p.now xs.now ys.now (length xs.now))) }
-    ensures fault { MatchResult result
-        (λ _. first_from (line_fault p.now xs.now ys.now) 0 (length ys.now) ≡ None)
-        (λ e. (first_from (line_fault p.now xs.now ys.now) 0 (length ys.now) ≡ Some e) ⊎ (e ≡ CodeFault.OutOfMemory)) }
+    ensures cells { IfOk result (λ cells. cells.items ≡ all_labels p.now xs.now ys.now) }
+    ensures fault { FailsByOr result (lines_fault p.now xs.now ys.now) CodeFault.OutOfMemory }
 {
     let mut cells = Vec::with_capacity(alloc, ys.len() * xs.len())?;
     for j in 0..ys.len() {
@@ -190,9 +183,7 @@ fn letters(
     requires wide { (1 ≤ w) × (w ≤ MAX_SIDE) }
     requires high { h ≤ MAX_SIDE }
     ensures cells { IfOk result (λ cells. cells.items ≡ (code_of p.now z.now w h).cells) }
-    ensures fault { MatchResult result
-        (λ _. first_from (row_fault p.now z.now w) 0 h ≡ None)
-        (λ e. (first_from (row_fault p.now z.now w) 0 h ≡ Some e) ⊎ (e ≡ CodeFault.OutOfMemory)) }
+    ensures fault { FailsByOr result (first_from (row_fault p.now z.now w) 0 h) CodeFault.OutOfMemory }
 {
     p.torus.torus();
     z.point();
@@ -218,9 +209,7 @@ pub fn code(
     requires high { (1 ≤ h) × (h ≤ MAX_SIDE) }
     ensures letters { IfOk result (λ g. IsCode p.now z.now g) }
     ensures code { IfOk result (λ g. g ≡ code_of p.now z.now w h) }
-    ensures fault { MatchResult result
-        (λ _. code_fault p.now z.now w h ≡ None)
-        (λ e. (code_fault p.now z.now w h ≡ Some e) ⊎ (e ≡ CodeFault.OutOfMemory)) }
+    ensures fault { FailsByOr result (code_fault p.now z.now w h) CodeFault.OutOfMemory }
 {
     if !is_in_square(&p.torus, z) {
         return Err(CodeFault::OutsideBox);

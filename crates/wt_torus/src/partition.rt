@@ -1,12 +1,13 @@
 //! A box that is turned along both axes, and its labelled regions.
-ghost use Rattle.std.specs.Prelude.{◌≡◌, ◌^◌, true, false, MatchResult};
+ghost use Rattle.std.specs.Prelude.{◌≡◌, ◌^◌, true};
 ghost use Rattle.wt_golden.specs.Sizes.{IsBelow};
 ghost use Rattle.wt_golden.specs.Wide.{number};
 ghost use Rattle.wt_golden.specs.Whole.{whole, minus, times};
 ghost use Rattle.wt_golden.specs.Fractions.{IsGolden};
 ghost use Rattle.wt_golden.specs.Fractions as fractions;
-ghost use Rattle.wt_torus.specs.Boxes.{is_rotation};
+ghost use Rattle.wt_torus.specs.Boxes.{is_rotation, rotation};
 ghost use Rattle.wt_torus.specs.Boxes as boxes;
+ghost use Rattle.wt_grid.specs.Answers.{GivesWhere};
 
 use crate::sign::is_positive;
 use std::marker::Model;
@@ -88,9 +89,7 @@ impl Torus {
         move1: Golden,
         move2: Golden,
     ) -> Result<Torus, TorusFault>
-        ensures { MatchResult result
-            (λ t. (t ≡ record { width = width; height = height; move1 = move1; move2 = move2 }) × (is_rotation t ≡ true))
-            (λ e. is_rotation (record { width = width; height = height; move1 = move1; move2 = move2 }) ≡ false) }
+        ensures { GivesWhere result (rotation width height move1 move2) is_rotation }
     {
         let inside = is_move(move1, width) && is_move(move2, height);
         if inside {

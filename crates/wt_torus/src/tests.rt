@@ -6,6 +6,7 @@ use crate::{CodeFault, Labelled, Letter, Partition, Torus, code, code_point};
 use std::alloc::{AllocError, Global};
 use std::test::Fail;
 use wt_golden::Golden;
+use wt_grid::MAX_SIDE;
 use wt_plane::{HalfPlane, Point, Region};
 use wt_seq::Seq;
 
@@ -72,8 +73,8 @@ fn letters(
     w: usize,
     h: usize,
 ) -> Result<Vec<u16>, CodeFault>
-    requires wide { (1 ≤ w) × (w ≤ 4096) }
-    requires high { (1 ≤ h) × (h ≤ 4096) }
+    requires wide { (1 ≤ w) × (w ≤ MAX_SIDE) }
+    requires high { (1 ≤ h) × (h ≤ MAX_SIDE) }
 {
     match code(alloc, p, z, w, h) {
         Ok(g) => Ok(g.into_cells()),
