@@ -60,7 +60,7 @@ none_at f (p ∷ ps) e a b h = let n = neither (f p) (first_in f ps) e in go (is
     go true t n r = ap f (sym (same_pair a b p t)) ∙ n
     go false t n r = r (rw t at h)
 
-none_in : {A : Type 0} (f : ℕ × ℕ → Option A) (ps : List (ℕ × ℕ)) → ((a b : ℕ) → list_any (is_this_pair a b) ps ≡ true → f (a, b) ≡ None) → first_in f ps ≡ None
+pub none_in : {A : Type 0} (f : ℕ × ℕ → Option A) (ps : List (ℕ × ℕ)) → ((a b : ℕ) → list_any (is_this_pair a b) ps ≡ true → f (a, b) ≡ None) → first_in f ps ≡ None
 none_in f [] h = refl
 none_in f (p ∷ ps) h =
     none_both (f p) (first_in f ps) (h p.0 p.1 (rw (is_pair_itself p) refl))
@@ -74,7 +74,7 @@ implied : (a b : Bool) → (not a || b) ≡ true → a ≡ true → b ≡ true
 implied true b e f = e
 implied false b e f = absurd (cc f)
 
-implies : (a b : Bool) → (a ≡ true → b ≡ true) → (not a || b) ≡ true
+pub implies : (a b : Bool) → (a ≡ true → b ≡ true) → (not a || b) ≡ true
 implies true b h = h refl
 implies false b h = refl
 

@@ -1,22 +1,22 @@
 -- What a walk along a list in strict order sees of it at its place.
-use Rattle.std.proofs.Common.{arith, ◌≡◌, ◌<◌, ◌≤◌, ◌+◌, ℕ, zero, suc, List, [], ◌∷◌, length, get_or, Bool, true, false, ◌&&◌, ◌||◌, nat_eq, nat_lt, nat_le, if◌then◌else◌, Some, None, is_some, refl, sym, ◌∙◌, ap, inl, inr}
+use Rattle.std.proofs.Common.{arith, ◌≡◌, ◌<◌, ◌≤◌, ◌+◌, ◌-◌, ℕ, zero, suc, List, [], ◌∷◌, length, get_or, Bool, true, false, ◌&&◌, ◌||◌, nat_eq, nat_lt, nat_le, if◌then◌else◌, Some, None, is_some, refl, sym, ◌∙◌, ap, inl, inr}
 use Rattle.std.proofs.lemmas.Bool.{and_parts}
 use Rattle.std.specs.List.{list_any, find}
 use Rattle.wt_grid.specs.Axes.{axis_number}
 use Rattle.wt_grid.specs.declared.axis.Axis.{Axis}
 use Rattle.std.proofs.lemmas.Bool.Decides.{nat_tests}
 use Rattle.wt_grid.specs.Order.{in_order, leads, AllAbove, IsSplit}
-use Rattle.wt_grid.specs.Pairs.{pair_before, is_this_pair, pairs_follow, pair_fits}
-use Rattle.wt_grid.proofs.Keys.{first_by, by_cases, by_less, pairs_split}
+use Rattle.wt_grid.specs.Pairs.{pair_before, is_this_pair}
+use Rattle.wt_grid.proofs.Keys.{first_by, by_cases, by_less}
 use Rattle.wt_grid.proofs.Order.{has_found, above_none}
 use Rattle.wt_refute.specs.declared.tree.Refuted.{Refuted}
 use Rattle.wt_refute.specs.Entries.{entry_before, is_entry, entries_follow}
 use Rattle.wt_refute.proofs.Entries.{entries_split}
 use Rattle.wt_step.specs.declared.raw.RawStep.{RawStep}
 use Rattle.wt_step.specs.declared.walk.Places.{Places}
-use Rattle.wt_step.specs.Words.{entry_fits, allowed, allows, entry_at}
+use Rattle.wt_step.specs.Words.{entry_fits, entry_at}
 use Rattle.wt_step.specs.Faults.{IsShaped}
-use Rattle.wt_step.specs.Walk.{passed, allowed_place, refuted_place, IsAtPlace}
+use Rattle.wt_step.specs.Walk.{passed, refuted_place, IsAtPlace, IsBehind}
 use Rattle.wt_step.proofs.Shaped.{refuted_ascend}
 
 -- Lists that are split at a key.
@@ -49,9 +49,6 @@ module _ {A : Type 0} (low hit : A → Bool) where
 
   pub has_at : (xs : List A) (d : A) → IsSplit low hit xs → passed low xs < length xs → list_any hit xs ≡ hit (get_or xs (passed low xs) d)
   has_at xs d s lt = has_found hit xs ∙ (ap is_some (hit_at xs d s lt) ∙ some_if (hit (get_or xs (passed low xs) d)) _)
-
-  pub has_none : (xs : List A) → IsSplit low hit xs → length xs ≤ passed low xs → list_any hit xs ≡ false
-  has_none xs s le = has_found hit xs ∙ ap is_some (miss_at xs s le)
 
   -- where one has the key, the place is within the list
   pub hit_within : (xs : List A) → IsSplit low hit xs → list_any hit xs ≡ true → passed low xs < length xs
@@ -194,9 +191,6 @@ row_ends x y n a e =
     rw (e, none, below_next x a) (ended (nat_lt x a) (nat_eq x a) (nat_eq x (a + 1)))
 
 -- behind the last tile of a row comes the next row
-pub pair_row : (n a : ℕ) (p : ℕ × ℕ) → pair_fits n p ≡ true → pair_before a n p ≡ pair_before (a + 1) 0 p
-pair_row n a p e = row_ends p.0 p.1 n a (and_parts (nat_lt p.0 n) (nat_lt p.1 n) e).1
-
 pub entry_row : (most n radius : ℕ) (axis : Axis) (a : ℕ) (r : Refuted) → entry_fits most n r ≡ true → entry_before radius axis a n r ≡ entry_before radius axis (a + 1) 0 r
 entry_row most n radius axis a r e =
     ap (λ t. nat_lt r.radius radius || (nat_eq r.radius radius && (nat_lt (axis_number r.axis) (axis_number axis) || (nat_eq (axis_number r.axis) (axis_number axis) && t))))
@@ -215,29 +209,11 @@ radius_rises radius axis rs = rises (entry_before radius axis 0 0) (entry_before
       | inr s ↦ by_less r.radius (radius + 1) (under_radius axis r) (let same : r.radius ≡ radius = s.0 in omega arith)
     ]
 
--- no pair comes before that of 0 and 0
-pub none_passed : (ps : List (ℕ × ℕ)) → passed (pair_before 0 0) ps ≡ 0
-none_passed [] = refl
-none_passed (p ∷ ps) =
-    let e : nat_lt p.0 0 ≡ false = grind (arith, nat_tests) in
-    let f : nat_lt p.1 0 ≡ false = grind (arith, nat_tests) in
-    rw (e, f) (go (nat_eq p.0 0))
-  where
-    go : (b : Bool) → (if (false || (b && false)) then suc (passed (pair_before 0 0) ps) else 0) ≡ 0
-    go true = refl
-    go false = refl
-
 -- The lists of a step.
 
 module _ (s : RawStep) (h : IsShaped s) (axis : Axis) (a b : ℕ) where
-  pub allowed_split : IsSplit (pair_before a b) (is_this_pair a b) (allowed s axis)
-  allowed_split = pairs_split (length s.fine.tiles) a b (allowed s axis) (h.allowed axis)
-
   pub refuted_split : (radius : ℕ) → IsSplit (entry_before radius axis a b) (is_entry radius axis a b) s.refuted
   refuted_split radius = entries_split radius axis a b s.refuted (refuted_ascend s h)
-
-  pub allowed_next : allowed_place s axis a (b + 1) ≡ (if allows s axis a b then suc (allowed_place s axis a b) else allowed_place s axis a b)
-  allowed_next = passed_next (pair_before a b) (is_this_pair a b) (pair_before a (b + 1)) (pair_next a b) (allowed s axis) allowed_split
 
   pub refuted_next : (radius : ℕ) → refuted_place s axis a (b + 1) radius
       ≡ (if is_some (entry_at s axis a b radius) then suc (refuted_place s axis a b radius) else refuted_place s axis a b radius)
@@ -245,22 +221,7 @@ module _ (s : RawStep) (h : IsShaped s) (axis : Axis) (a b : ℕ) where
       let e = passed_next (entry_before radius axis a b) (is_entry radius axis a b) (entry_before radius axis a (b + 1)) (entry_next radius axis a b) s.refuted (refuted_split radius) in
       rw (has_found (is_entry radius axis a b) s.refuted) at e
 
-  -- what code sees at the place of an allowed pair
-
-  pub allowed_here : (pairs : List (ℕ × ℕ)) (place : ℕ) (d : ℕ × ℕ) → pairs ≡ allowed s axis → place ≡ allowed_place s axis a b → place < length pairs
-      → allows s axis a b ≡ is_this_pair a b (get_or pairs place d)
-  allowed_here pairs place d e p lt = rw (e, p) (has_at (pair_before a b) (is_this_pair a b) (allowed s axis) d allowed_split (rw (e, p) at lt))
-
-  pub allowed_past : (pairs : List (ℕ × ℕ)) (place : ℕ) → pairs ≡ allowed s axis → place ≡ allowed_place s axis a b → length pairs ≤ place → allows s axis a b ≡ false
-  allowed_past pairs place e p le = has_none (pair_before a b) (is_this_pair a b) (allowed s axis) allowed_split (rw (e, p) at le)
-
-  pub allowed_hit : (place : ℕ) → place ≡ allowed_place s axis a b → allows s axis a b ≡ true → place + 1 ≡ allowed_place s axis a (b + 1)
-  allowed_hit place p e = let n = rw e at allowed_next in omega (arith, n, p)
-
-  pub allowed_miss : (place : ℕ) → place ≡ allowed_place s axis a b → allows s axis a b ≡ false → place ≡ allowed_place s axis a (b + 1)
-  allowed_miss place p e = let n = rw e at allowed_next in p ∙ sym n
-
-  -- and at that of a refutation
+  -- what code sees at the place of a refutation
 
   module _ (radius : ℕ) where
     pub refuted_here : (entries : List Refuted) (place : ℕ) (d : Refuted) → entries ≡ s.refuted → place ≡ refuted_place s axis a b radius → place < length entries
@@ -295,6 +256,21 @@ pub next_row : (s : RawStep) (axis : Axis) (a : ℕ) (places : Places) → IsSha
 next_row s axis a places h p =
     let n = length s.fine.tiles in
     record {
-      allowed = p.allowed ∙ passed_same (pair_before a n) (pair_before (a + 1) 0) (pair_fits n) pairs_follow (pair_row n a) (allowed s axis) (h.allowed axis);
       refuted = λ radius le. p.refuted radius le ∙ passed_same (entry_before radius axis a n) (entry_before radius axis (a + 1) 0) (entry_fits s.radius n) entries_follow (entry_row s.radius n radius axis a) s.refuted h.refuted;
     }
+
+-- the places rise with the second tile
+module _ (s : RawStep) (axis : Axis) (a radius : ℕ) where
+  rise : (b : ℕ) → refuted_place s axis a b radius ≤ refuted_place s axis a (b + 1) radius
+  rise b = rises (entry_before radius axis a b) (entry_before radius axis a (b + 1)) (λ r e. entry_next radius axis a b r ∙ rw e refl) s.refuted
+
+  rise_by : (n b : ℕ) → refuted_place s axis a b radius ≤ refuted_place s axis a (b + n) radius
+  rise_by zero b = let e : b + 0 ≡ b = omega arith in rw e (omega arith)
+  rise_by (suc n) b = let e : b + suc n ≡ b + n + 1 = omega arith in rw e (omega (arith, rise_by n b, rise (b + n)))
+
+  pub later : (b k : ℕ) → b ≤ k → refuted_place s axis a b radius ≤ refuted_place s axis a k radius
+  later b k le = let e : b + (k - b) ≡ k = omega arith in rw e at (rise_by (k - b) b)
+
+-- the places of a pair are behind those of a later one
+pub behind : (s : RawStep) (axis : Axis) (a b k : ℕ) (places : Places) → IsAtPlace s axis a b places → b ≤ k → IsBehind s axis a k places
+behind s axis a b k places p le = λ radius small. rw (p.refuted radius small) (later s axis a radius b k le)

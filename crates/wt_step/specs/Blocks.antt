@@ -4,10 +4,11 @@ use Rattle.wt_grid.specs.declared.image.Image.TheVariants as image
 use Rattle.wt_grid.specs.declared.image.Image.{Image}
 use Rattle.wt_grid.specs.declared.axis.Axis.TheVariants.{One, Two}
 use Rattle.wt_grid.specs.declared.axis.Axis.{Axis}
-use Rattle.wt_grid.specs.Grid.{Grid, along, across, at, grid_of}
+use Rattle.wt_grid.specs.Grid.{Grid, along, across, at, grid_of, listed}
 use Rattle.wt_step.specs.declared.raw.RawStep.{RawStep}
 use Rattle.wt_step.specs.declared.raw.RawRestrict.{RawRestrict}
 use Rattle.wt_step.specs.declared.blocks.Block.{Block}
+use Rattle.wt_step.specs.declared.index.Index.{Index}
 use Rattle.wt_step.specs.Words.{is_marker, joined, ends_block}
 use Rattle.wt_step.specs.Cores.{core_length}
 
@@ -66,9 +67,47 @@ abbrev pub coarse_at : RawStep → Grid → List ℕ → List ℕ → List Block
 coarse_at s p singles pairs blocks One x y = block_tile s p singles pairs (block_at blocks x) y
 coarse_at s p singles pairs blocks Two x y = block_tile s p singles pairs (block_at blocks y) x
 
+-- the same at column x, the row first
+abbrev pub coarse_in : RawStep → Grid → List ℕ → List ℕ → List Block → ℕ → ℕ → ℕ
+coarse_in s p singles pairs blocks y x = coarse_at s p singles pairs blocks s.axis x y
+
 -- cell k in reading order
 abbrev pub coarse_cell : RawStep → Grid → List ℕ → List ℕ → List Block → ℕ → ℕ → ℕ
 coarse_cell s p singles pairs blocks width k = coarse_at s p singles pairs blocks s.axis (k % width) (k / width)
+
+-- the first n cells of row y
+abbrev pub coarse_row : RawStep → Grid → Index → List Block → ℕ → ℕ → List ℕ
+coarse_row s p index blocks y n = listed n (coarse_in s p index.singles.items index.pairs.items blocks y)
+
+-- w by h cells in reading order
+abbrev pub coarse_cells : RawStep → Grid → Index → List Block → ℕ → ℕ → List ℕ
+coarse_cells s p index blocks w h = listed (w * h) (coarse_cell s p index.singles.items index.pairs.items blocks w)
+
+-- the number in a table for the number at place i of a line
+abbrev pub found_at : List ℕ → List ℕ → ℕ → ℕ
+found_at table line i = slice_index table (slice_index line i)
+
+-- the number in a table of pairs, n in a row, for the numbers at place i of two lines
+abbrev pub pair_found_at : List ℕ → ℕ → List ℕ → List ℕ → ℕ → ℕ
+pair_found_at table n low high i = slice_index table (slice_index low i * n + slice_index high i)
+
+-- the coarse tile of a block in a row of fine cells, of n tiles
+abbrev pub tile_in : ℕ → List ℕ → List ℕ → List ℕ → Block → ℕ
+tile_in n singles pairs row block =
+    if block.double then slice_index pairs (slice_index row block.line * n + slice_index row (block.line + 1))
+    else slice_index singles (slice_index row block.line)
+
+-- the same for block i
+abbrev pub block_in : ℕ → List ℕ → List ℕ → List ℕ → List Block → ℕ → ℕ
+block_in n singles pairs row blocks i = tile_in n singles pairs row (block_at blocks i)
+
+-- a block lies in the first n lines
+abbrev pub IsWithin : ℕ → Block → Type 0
+IsWithin n block = (block.line < n) × (block.double ≡ true → block.line + 1 < n)
+
+-- each block does
+abbrev pub AreWithin : ℕ → List Block → Type 0
+AreWithin n blocks = (i : ℕ) → i < length blocks → IsWithin n (block_at blocks i)
 
 -- the width of n lines of m cells each
 abbrev pub width_of : Axis → ℕ → ℕ → ℕ
@@ -105,6 +144,10 @@ pub record IsPlaced (kept : List ℕ) (n k : ℕ) (places : List ℕ) : Type 0 w
 -- the coarse tile of a restrict step at column x of row y
 abbrev pub kept_tile : RawRestrict → Grid → List ℕ → ℕ → ℕ → ℕ
 kept_tile s p places x y = slice_index places (cell_at p One (s.radius + x) (s.radius + y))
+
+-- the same, the row first
+abbrev pub kept_in : RawRestrict → Grid → List ℕ → ℕ → ℕ → ℕ
+kept_in s p places y x = kept_tile s p places x y
 
 -- the same for cell k in reading order
 abbrev pub kept_cell : RawRestrict → Grid → List ℕ → ℕ → ℕ → ℕ

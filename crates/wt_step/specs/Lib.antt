@@ -24,3 +24,7 @@ pub mod Cores
 pub mod Carried
 -- Steps within the limits of a text, apart from how many nodes their trees have.
 pub mod Limits
+-- Scaffolding: masks of the tiles of a step.
+pub mod TileMasks
+-- Scaffolding: the edges that images show.
+pub mod Joins

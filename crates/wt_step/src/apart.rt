@@ -2,12 +2,12 @@
 ghost use Rattle.std.specs.Prelude.{◌≡◌, ◌≤◌, ◌<◌, ◌-◌, ◌+◌, not, false, length, IfOk};
 ghost use Rattle.wt_grid.specs.Grid.{along, across};
 ghost use Rattle.wt_grid.specs.Parts.{core};
-ghost use Rattle.wt_pattern.specs.Patterns.{IsPattern};
+ghost use Rattle.wt_pattern.specs.Patterns.{IsPattern, AllTiles};
 ghost use Rattle.wt_pattern.specs.Shape.{IsShape};
 ghost use Rattle.wt_step.specs.Words as words;
 ghost use Rattle.wt_step.specs.Good.{IsGoodStep};
 ghost use Rattle.wt_step.specs.Meaning.{IsMarkerDesubstitution};
-ghost use Rattle.wt_step.specs.Blocks.{coarse_grid};
+ghost use Rattle.wt_step.specs.Blocks.{coarse_grid, AreWithin, IsIndexed};
 ghost use Rattle.wt_step.specs.Blocks as block_words;
 ghost use Rattle.wt_step.specs.Cores.{core_length, core_width};
 ghost use Rattle.wt_step.specs.Coarse.{is_marked};
@@ -66,7 +66,7 @@ pub fn one_if(cut: bool) -> u16
 }
 
 /// The blocks of the cut core.
-#[tactic(auto, using(crate::proofs::Sized::same_count, crate::proofs::Sized::some_of_core, crate::proofs::Sized::few_of_core))]
+#[tactic(auto, using(crate::proofs::Sized::same_count, crate::proofs::Sized::some_of_core, crate::proofs::Sized::few_of_core, crate::proofs::CoarseRows::core_within))]
 fn core_blocks(
     alloc: Global,
     raw: &RawStep,
@@ -78,6 +78,7 @@ fn core_blocks(
     ensures some { IfOk result (λ blocks. 1 ≤ length blocks.items) }
     ensures few { IfOk result (λ blocks. length blocks.items ≤ MAX_SIDE) }
     ensures value { IfOk result (λ blocks. blocks.items ≡ block_words.core_blocks raw.now p.now low high) }
+    ensures within { IfOk result (λ blocks. AreWithin (core_length raw.now p.now) blocks.items) }
 {
     let lines = core_lines(p, raw.axis, raw.radius) as u16;
     find_blocks(alloc, raw, p, one_if(low), lines - one_if(high))
@@ -112,6 +113,11 @@ fn coarse_pattern(
     across: usize,
 ) -> Result<Pattern, AllocError>
     requires good { IsGoodStep raw.now }
+    requires tiles { AllTiles raw.now.fine.tiles p.now }
+    requires index { IsIndexed raw.now.images (length raw.now.fine.tiles) (length raw.now.images) index.now.singles.items index.now.pairs.items }
+    requires within { AreWithin (core_length raw.now p.now) blocks.now }
+    requires long { 1 ≤ core_length raw.now p.now }
+    requires wide { across ≡ core_width raw.now p.now }
     requires some { 1 ≤ across }
     requires few { across ≤ MAX_SIDE }
     requires some_blocks { 1 ≤ length blocks.now }
@@ -120,7 +126,7 @@ fn coarse_pattern(
 {
     let width = width_of(raw.axis, blocks.len(), across);
     let height = height_of(raw.axis, blocks.len(), across);
-    let cells = coarse_cells(alloc, raw, p, index, blocks, width, width * height)?;
+    let cells = coarse_cells(alloc, raw, p, index, blocks, width, height)?;
     Ok(Pattern::of(width, height, cells))
 }
 

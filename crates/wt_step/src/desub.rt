@@ -45,7 +45,7 @@ fn has_margin(link: LinkRef<'_>, p: &Pattern) -> bool
 
 /// The coarse pattern of a valid pattern with the margin.
 #[tactic(auto, using(crate::proofs::Margins::marker_long, crate::proofs::Margins::marker_wide, crate::proofs::Margins::kept_wide, crate::proofs::Margins::kept_high))]
-fn desubstitute_valid(alloc: Global, link: LinkRef<'_>, p: &Pattern) -> Result<Coarse, AllocError>
+fn take_link_apart(alloc: Global, link: LinkRef<'_>, p: &Pattern) -> Result<Coarse, AllocError>
     requires pattern { IsPattern (fine_of (link_of link)).tiles p.now }
     requires margin { spec.has_margin (link_of link) p.now ≡ true }
     ensures coarse { IfOk result (λ c. IsDesubstitution (link_of link.entry) p.now c.pattern) }
@@ -83,13 +83,32 @@ pub fn desubstitute(alloc: Global, link: LinkRef<'_>, p: &Pattern) -> Result<Coa
     match valid(link.fine(), p) {
         Some(fault) => Err(DesubFault::NotValid(fault)),
         None => {
-            if !has_margin(link, p) {
-                return Err(DesubFault::TooSmall);
-            }
-            match desubstitute_valid(alloc, link, p) {
-                Ok(coarse) => Ok(coarse),
-                Err(_) => Err(DesubFault::OutOfMemory),
-            }
+            p.width();
+            desubstitute_valid(alloc, link, p)
         }
+    }
+}
+
+/// What `desubstitute` answers of a pattern that is known to be valid, which isn't tested again.
+#[tactic(auto, using(crate::proofs::Margins::valid_fault))]
+pub fn desubstitute_valid(
+    alloc: Global,
+    link: LinkRef<'_>,
+    p: &Pattern,
+) -> Result<Coarse, DesubFault>
+    requires { IsPattern (fine_of (link_of link)).tiles p.now }
+    ensures refused { (fault : DesubFault) → desub_fault (link_of link.entry) p.now ≡ Some fault → IsErrOf result fault }
+    ensures refusal { IfErr result (λ fault. (fault ≡ DesubFault.OutOfMemory) ⊎ (desub_fault (link_of link.entry) p.now ≡ Some fault)) }
+    ensures coarse { IfOk result (λ c. IsDesubstitution (link_of link.entry) p.now c.pattern) }
+    ensures valid { IfOk result (λ c. IsPattern (coarse_of (link_of link.entry)).tiles c.pattern) }
+    ensures low_cut { IfOk result (λ c. c.low_cut ≡ cuts_low (link_of link.entry) p.now) }
+    ensures high_cut { IfOk result (λ c. c.high_cut ≡ cuts_high (link_of link.entry) p.now) }
+{
+    if !has_margin(link, p) {
+        return Err(DesubFault::TooSmall);
+    }
+    match take_link_apart(alloc, link, p) {
+        Ok(coarse) => Ok(coarse),
+        Err(_) => Err(DesubFault::OutOfMemory),
     }
 }

@@ -1,17 +1,16 @@
 // A pattern taken over by a good restrict step.
-ghost use Rattle.std.specs.Prelude.{◌≡◌, ◌≤◌, ◌<◌, length, slice_set, IfOk};
+ghost use Rattle.std.specs.Prelude.{◌≡◌, ◌≤◌, ◌<◌, ◌*◌, ◌++◌, length, slice_set, IfOk, OnOk};
 ghost use Rattle.wt_grid.specs.Grid.{listed, grid_of};
 ghost use Rattle.wt_grid.specs.Parts.{core};
-ghost use Rattle.wt_pattern.specs.Patterns.{IsPattern};
+ghost use Rattle.wt_pattern.specs.Patterns.{AllTiles, IsPattern};
 ghost use Rattle.wt_step.specs.Good.{IsGoodRestrict};
 ghost use Rattle.wt_step.specs.Meaning.{IsRestriction};
-ghost use Rattle.wt_step.specs.Blocks.{IsPlaced, kept_cell};
+ghost use Rattle.wt_step.specs.Blocks.{IsPlaced, kept_cell, kept_in};
 ghost use Rattle.wt_step.specs.Blocks as spec;
 
 use crate::RawRestrict;
 use crate::apart::{core_across, core_lines};
-use crate::blocks::cell_at;
-use crate::cells::number_at;
+use crate::cells::{look_up, row_from};
 use crate::restrict::kept_at;
 use std::alloc::{AllocError, Global};
 use wt_grid::{MAX_SIDE, MAX_TILES};
@@ -55,36 +54,53 @@ fn place_kept(alloc: Global, raw: &RawRestrict) -> Result<Vec<u16>, AllocError>
     Ok(places)
 }
 
-/// The coarse tile at column x of row y.
-fn kept_tile(raw: &RawRestrict, p: &Pattern, places: &[u16], x: usize, y: usize) -> u16
-    requires column { x < 16777217 }
-    requires row { y < 16777217 }
-    ensures { result ≡ spec.kept_tile raw.now p.now places.now x y }
+/// Makes row y of the coarse pattern, and appends it.
+fn push_kept_row(
+    raw: &RawRestrict,
+    p: &Pattern,
+    places: &[u16],
+    y: usize,
+    row: &mut [u16],
+    cells: &mut Vec<u16>,
+) -> Result<(), AllocError>
+    requires good { IsGoodRestrict raw.now }
+    requires tiles { AllTiles raw.now.fine.tiles p.now }
+    requires places { length places.now ≡ length raw.now.fine.tiles }
+    requires wide { 1 ≤ (core raw.now.radius p.now).width }
+    requires size { length row.old ≡ (core raw.now.radius p.now).width }
+    requires row { y < (core raw.now.radius p.now).height }
+    requires low { y ≤ MAX_SIDE }
+    ensures cells { OnOk result (cells.new.items ≡ cells.old.items ++ listed (length row.old) (kept_in raw.now p.now places.now y)) }
+    ensures size { length row.new ≡ length row.old }
 {
     let radius = usize::from(raw.radius);
-    number_at(
-        places,
-        usize::from(cell_at(p, Axis::One, radius + x, radius + y)),
-    )
+    look_up(places, row_from(p, radius, radius + y), row);
+    cells.extend_from_slice(row)
 }
 
-/// n cells in reading order.
-#[tactic(auto, using(crate::proofs::Listed::listed_more))]
+/// The cells of the coarse pattern in reading order.
 fn kept_cells(
     alloc: Global,
     raw: &RawRestrict,
     p: &Pattern,
     places: &[u16],
     width: usize,
-    count: usize,
+    height: usize,
 ) -> Result<Vec<u16>, AllocError>
-    requires some { 0 < width }
-    requires few { count ≤ 16777216 }
-    ensures { IfOk result (λ cells. cells.items ≡ listed count (kept_cell raw.now p.now places.now width)) }
+    requires good { IsGoodRestrict raw.now }
+    requires tiles { AllTiles raw.now.fine.tiles p.now }
+    requires places { length places.now ≡ length raw.now.fine.tiles }
+    requires wide { 1 ≤ width }
+    requires narrow { width ≤ MAX_SIDE }
+    requires low { height ≤ MAX_SIDE }
+    requires width { width ≡ (core raw.now.radius p.now).width }
+    requires height { height ≡ (core raw.now.radius p.now).height }
+    ensures { IfOk result (λ cells. cells.items ≡ listed (width * height) (kept_cell raw.now p.now places.now width)) }
 {
-    let mut cells = Vec::with_capacity(alloc, count)?;
-    for k in 0..count {
-        cells.push(kept_tile(raw, p, places, k % width, k / width))?;
+    let mut cells = Vec::with_capacity(alloc, width * height)?;
+    let mut row = vec![in alloc; 0u16; width]?;
+    for y in 0..height {
+        push_kept_row(raw, p, places, y, &mut row, &mut cells)?;
     }
     Ok(cells)
 }
@@ -98,13 +114,18 @@ fn kept_pattern(
     width: usize,
     height: usize,
 ) -> Result<Pattern, AllocError>
+    requires good { IsGoodRestrict raw.now }
+    requires tiles { AllTiles raw.now.fine.tiles p.now }
+    requires places { length places.now ≡ length raw.now.fine.tiles }
+    requires width { width ≡ (core raw.now.radius p.now).width }
+    requires height { height ≡ (core raw.now.radius p.now).height }
     requires wide { 1 ≤ width }
     requires narrow { width ≤ MAX_SIDE }
     requires high { 1 ≤ height }
     requires low { height ≤ MAX_SIDE }
     ensures { IfOk result (λ q. q ≡ grid_of width height (spec.kept_tile raw.now p.now places.now)) }
 {
-    let cells = kept_cells(alloc, raw, p, places, width, width * height)?;
+    let cells = kept_cells(alloc, raw, p, places, width, height)?;
     Ok(Pattern::of(width, height, cells))
 }
 

@@ -13,9 +13,12 @@ mod copy;
 mod desub;
 mod good;
 mod index;
+mod joins;
 mod keep;
 mod laws;
+mod lines;
 mod link;
+mod marked;
 mod order;
 mod raw;
 mod restrict;
@@ -29,7 +32,7 @@ pub use borrowed::RestrictRef;
 pub use carry::{carry_period, has_room};
 pub use coarse::{Coarse, DesubFault};
 pub use copy::copy_link;
-pub use desub::desubstitute;
+pub use desub::{desubstitute, desubstitute_valid};
 pub use good::{Step, StepRef, accept_step};
 pub use laws::{
     cores_are_plain, cuts_are_the_border_lines, desubstitutes, good_links, good_restricts,

@@ -1,24 +1,27 @@
-// The tests of the pairs of tiles. They go by the first tile, then by the second, and the sorted lists of a
-// step are walked beside them: a list is read where it stands, and never searched.
-ghost use Rattle.std.specs.Prelude.{◌≡◌, ◌+◌, ◌-◌, ◌^◌, ◌<◌, ◌≤◌, None, Some, MatchResult, length, true, is_some, option_map};
-ghost use Rattle.std.specs.Bool.{OnTrue};
+// The tests of the pairs of tiles. They go by the first tile, then by the second. A row of pairs that are allowed
+// where they match is one comparison of masks; asked one by one are the pairs that differ, and the pairs of a row
+// with a fault. The refutations are walked beside: they are read where they stand, and never searched.
+ghost use Rattle.std.specs.Prelude.{◌≡◌, ℕ, List, ◌+◌, ◌-◌, ◌^◌, ◌<◌, ◌≤◌, None, Some, MatchResult, length, true, is_some, option_map};
+ghost use Rattle.std.specs.Bool.{OnTrue, OnFalse};
+ghost use Rattle.wt_tile.specs.declared.tile.Tile.{Tile};
+ghost use Rattle.wt_tile.specs.Matching.{matches};
+ghost use Rattle.wt_lane.specs.Masks.{mask_bit};
+ghost use Rattle.wt_mask.specs.Masks.{IsRow, may_stand};
 ghost use Rattle.wt_step.specs.Words as words;
 ghost use Rattle.wt_step.specs.Faults.{IsShaped};
 ghost use Rattle.wt_step.specs.Faults as faults;
-ghost use Rattle.wt_step.specs.Walk.{IsAtPlace, allowed_place, refuted_place};
+ghost use Rattle.wt_step.specs.Walk.{IsAtPlace, IsBehind, IsOdd, refuted_place, rest_fault};
 
-use crate::order::is_pair;
-use crate::shape::{allowed, count_tiles};
+use crate::shape::count_tiles;
 use crate::{RawStep, StepFault};
-use wt_mask::Sides;
+use wt_grid::MAX_TILES;
+use wt_mask::{Rows, Sides, Way, differ_into, has_bit, next_bit};
 use wt_refute::{Refuted, check_tree_in, entry_before, is_entry};
-use wt_tile::{Axis, SetRef, is_match};
+use wt_tile::{Axis, is_match};
 
-/// Where the lists of a step stand at a pair of tiles: there they have the pair, or nowhere.
+/// Where the refutations of a step stand at a pair of tiles: there they name the pair, or nowhere.
 #[derive(Clone, Copy)]
 struct Places {
-    /// How many allowed pairs of the axis come before the pair.
-    allowed: usize,
     /// How many refutations come before that of the pair, for each radius from 0 to the step's.
     refuted: [usize; 5],
 }
@@ -48,21 +51,7 @@ fn first_places(raw: &RawStep, axis: Axis) -> Places
         place = first_refuted(raw, axis, radius, place);
         refuted[usize::from(radius)] = place;
     }
-    Places {
-        allowed: 0,
-        refuted,
-    }
-}
-
-/// Whether the pair is allowed, read at its place.
-fn is_allowed_at(raw: &RawStep, axis: Axis, a: u16, b: u16, place: usize) -> bool
-    requires shaped { IsShaped raw.now }
-    requires placed { place ≡ allowed_place raw.now axis a b }
-    ensures value { result ≡ words.allows raw.now axis a b }
-    ensures below { OnTrue result (place < 2 ^ 64 - 1) }
-{
-    let pairs = allowed(raw, axis);
-    place < pairs.len() && is_pair(a, b, pairs[place])
+    Places { refuted }
 }
 
 /// Whether the pair is refuted at a radius, read at its place.
@@ -86,19 +75,6 @@ fn entry_at(raw: &RawStep, axis: Axis, a: u16, b: u16, radius: u8, place: usize)
         Some(&raw.refuted.as_slice()[place])
     } else {
         None
-    }
-}
-
-/// The place in the allowed pairs at the next pair of the row.
-fn allowed_after(raw: &RawStep, axis: Axis, a: u16, b: u16, place: usize) -> usize
-    requires shaped { IsShaped raw.now }
-    requires placed { place ≡ allowed_place raw.now axis a b }
-    ensures { result ≡ allowed_place raw.now axis a (b + 1) }
-{
-    if is_allowed_at(raw, axis, a, b, place) {
-        place + 1
-    } else {
-        place
     }
 }
 
@@ -126,20 +102,26 @@ fn next_places(raw: &RawStep, axis: Axis, a: u16, b: u16, places: &Places) -> Pl
         let i = usize::from(radius);
         refuted[i] = refuted_after(raw, axis, a, b, radius, places.refuted[i]);
     }
-    Places {
-        allowed: allowed_after(raw, axis, a, b, places.allowed),
-        refuted,
-    }
+    Places { refuted }
+}
+
+/// Whether the pair is allowed, read in the row of its first tile.
+#[tactic(auto, using(crate::proofs::Even::bit_told))]
+fn is_allowed_in(raw: &RawStep, row: &[u64; 4], axis: Axis, a: u16, b: u16) -> bool
+    requires row { IsRow (words.allowed raw.now axis) a row.now }
+    requires second { b < MAX_TILES }
+    ensures { result ≡ words.allows raw.now axis a b }
+{
+    has_bit(row, usize::from(b))
 }
 
 /// Whether the tiles of the pair match and aren't allowed.
-fn is_barred_here(raw: &RawStep, axis: Axis, a: u16, b: u16, places: &Places) -> bool
-    requires shaped { IsShaped raw.now }
-    requires placed { IsAtPlace raw.now axis a b places.now }
+fn is_barred_in(raw: &RawStep, row: &[u64; 4], axis: Axis, a: u16, b: u16) -> bool
+    requires row { IsRow (words.allowed raw.now axis) a row.now }
+    requires second { b < MAX_TILES }
     ensures { result ≡ words.is_barred raw.now axis a b }
 {
-    is_match(raw.fine.tiles.as_slice(), axis, a, b)
-        && !is_allowed_at(raw, axis, a, b, places.allowed)
+    is_match(raw.fine.tiles.as_slice(), axis, a, b) && !is_allowed_in(raw, row, axis, a, b)
 }
 
 /// How often the refutations name the pair.
@@ -158,17 +140,18 @@ fn times(raw: &RawStep, axis: Axis, a: u16, b: u16, places: &Places) -> usize
     count
 }
 
-fn is_named_well(raw: &RawStep, axis: Axis, a: u16, b: u16, places: &Places) -> bool
+fn is_named_well(raw: &RawStep, row: &[u64; 4], axis: Axis, a: u16, b: u16, places: &Places) -> bool
     requires shaped { IsShaped raw.now }
+    requires row { IsRow (words.allowed raw.now axis) a row.now }
+    requires second { b < MAX_TILES }
     requires placed { IsAtPlace raw.now axis a b places.now }
     ensures { result ≡ faults.is_named_well raw.now axis a b }
 {
     let named = times(raw, axis, a, b, places);
-    if is_barred_here(raw, axis, a, b, places) {
+    if is_barred_in(raw, row, axis, a, b) {
         named == 1
     } else {
-        (is_match(raw.fine.tiles.as_slice(), axis, a, b)
-            || !is_allowed_at(raw, axis, a, b, places.allowed))
+        (is_match(raw.fine.tiles.as_slice(), axis, a, b) || !is_allowed_in(raw, row, axis, a, b))
             && named == 0
     }
 }
@@ -231,6 +214,7 @@ fn trees_fault(
 fn pair_fault(
     raw: &RawStep,
     sides: &Sides<'_>,
+    row: &[u64; 4],
     axis: Axis,
     a: u16,
     b: u16,
@@ -238,38 +222,103 @@ fn pair_fault(
 ) -> Option<StepFault>
     requires shaped { IsShaped raw.now }
     requires of_fine { sides.now.tiles.now ≡ raw.now.fine.tiles }
+    requires row { IsRow (words.allowed raw.now axis) a row.now }
+    requires second { b < MAX_TILES }
     requires placed { IsAtPlace raw.now axis a b places.now }
     ensures { result ≡ faults.pair_fault raw.now axis a b }
 {
-    if !is_named_well(raw, axis, a, b, places) {
+    if !is_named_well(raw, row, axis, a, b, places) {
         return Some(StepFault::Pair { axis, a, b });
     }
-    if is_barred_here(raw, axis, a, b, places) {
+    if is_barred_in(raw, row, axis, a, b) {
         trees_fault(raw, sides, axis, a, b, places)
     } else {
         None
     }
 }
 
-/// The first fault of a row of pairs, or the places at the next row.
+/// The side of a tile on which the next one along an axis stands.
+fn way(axis: Axis) -> Way
+    ensures { (ts : List Tile) (t u : ℕ) → may_stand ts result t u ≡ matches ts axis t u }
+{
+    match axis {
+        Axis::One => Way::Right,
+        Axis::Two => Way::Up,
+    }
+}
+
+/// The tiles that match a tile behind it and aren't allowed there, or the other way round.
+fn odd_tiles(raw: &RawStep, sides: &Sides<'_>, row: &[u64; 4], axis: Axis, a: u16) -> [u64; 4]
+    requires shaped { IsShaped raw.now }
+    requires of_fine { sides.now.tiles.now ≡ raw.now.fine.tiles }
+    requires row { IsRow (words.allowed raw.now axis) a row.now }
+    ensures { IsOdd raw.now axis a result }
+{
+    let mut odd = sides.beside(way(axis), a);
+    differ_into(&mut odd, row);
+    odd
+}
+
+/// The first tile of a mask from a number on, or the number of tiles.
+fn next_odd(odd: &[u64; 4], from: u16, tiles: u16) -> u16
+    requires few { tiles ≤ MAX_TILES }
+    requires within { from ≤ tiles }
+    ensures least { from ≤ result }
+    ensures most { result ≤ tiles }
+    ensures even { (k : ℕ) → from ≤ k → k < result → mask_bit odd.now k ≡ 0 }
+{
+    match next_bit(odd, usize::from(from)) {
+        None => tiles,
+        Some(tile) => tiles.min(tile as u16),
+    }
+}
+
+/// Whether the refutation at a place comes before those of a pair at a radius.
+fn is_passed(raw: &RawStep, axis: Axis, a: u16, b: u16, radius: u8, place: usize) -> bool
+    requires { place ≤ refuted_place raw.now axis a b radius }
+    ensures { OnFalse result (place ≡ refuted_place raw.now axis a b radius) }
+{
+    let entries = raw.refuted.as_slice();
+    place < entries.len() && entry_before(radius, axis, a, b, &entries[place])
+}
+
+/// Whether the places of an earlier pair are those of this one, since no refutation stands between.
+fn are_places_at(raw: &RawStep, axis: Axis, a: u16, b: u16, places: &Places) -> bool
+    requires shaped { IsShaped raw.now }
+    requires behind { IsBehind raw.now axis a b places.now }
+    ensures { OnTrue result (IsAtPlace raw.now axis a b places.now) }
+{
+    for radius in 0..raw.radius + 1 {
+        if is_passed(raw, axis, a, b, radius, places.refuted[usize::from(radius)]) {
+            return false;
+        }
+    }
+    true
+}
+
+/// The first fault of a row of pairs from a second tile on, or the places at the next row.
 #[tactic(auto, using(wt_grid::proofs::First::first_more))]
-fn row_fault(
+fn walk_row(
     raw: &RawStep,
     sides: &Sides<'_>,
+    row: &[u64; 4],
     axis: Axis,
     a: u16,
-    at_row: Places,
+    from: u16,
+    at: Places,
 ) -> Result<Places, StepFault>
     requires shaped { IsShaped raw.now }
     requires of_fine { sides.now.tiles.now ≡ raw.now.fine.tiles }
-    requires placed { IsAtPlace raw.now axis a 0 at_row }
+    requires row { IsRow (words.allowed raw.now axis) a row.now }
+    requires within { from ≤ length raw.now.fine.tiles }
+    requires placed { IsAtPlace raw.now axis a from at }
     ensures { MatchResult result
-        (λ next. (faults.row_fault raw.now axis a ≡ None) × IsAtPlace raw.now axis (a + 1) 0 next)
-        (λ fault. faults.row_fault raw.now axis a ≡ Some fault) }
+        (λ next. (rest_fault raw.now axis a from ≡ None) × IsAtPlace raw.now axis (a + 1) 0 next)
+        (λ fault. rest_fault raw.now axis a from ≡ Some fault) }
 {
-    let mut places = at_row;
-    for b in 0..count_tiles(raw) {
-        if let Some(fault) = pair_fault(raw, sides, axis, a, b, &places) {
+    let mut places = at;
+    for b in from..count_tiles(raw) {
+        if let Some(fault) = pair_fault(raw, sides, row, axis, a, b, &places) {
             return Err(fault);
         }
         places = next_places(raw, axis, a, b, &places);
@@ -277,16 +326,59 @@ fn row_fault(
     Ok(places)
 }
 
+/// The first fault of a row of pairs, or the places at the next row.
+fn row_fault(
+    raw: &RawStep,
+    sides: &Sides<'_>,
+    row: &[u64; 4],
+    axis: Axis,
+    a: u16,
+    at_row: Places,
+) -> Result<Places, StepFault>
+    requires shaped { IsShaped raw.now }
+    requires of_fine { sides.now.tiles.now ≡ raw.now.fine.tiles }
+    requires row { IsRow (words.allowed raw.now axis) a row.now }
+    requires placed { IsAtPlace raw.now axis a 0 at_row }
+    ensures { MatchResult result
+        (λ next. (faults.row_fault raw.now axis a ≡ None) × IsAtPlace raw.now axis (a + 1) 0 next)
+        (λ fault. faults.row_fault raw.now axis a ≡ Some fault) }
+{
+    let odd = odd_tiles(raw, sides, row, axis, a);
+    let tiles = count_tiles(raw);
+    let mut places = at_row;
+    let mut from = 0u16;
+    loop {
+        let b = next_odd(&odd, from, tiles);
+        if !are_places_at(raw, axis, a, b, &places) {
+            return walk_row(raw, sides, row, axis, a, from, places);
+        }
+        if b == tiles {
+            return Ok(places);
+        }
+        if let Some(fault) = pair_fault(raw, sides, row, axis, a, b, &places) {
+            return Err(fault);
+        }
+        places = next_places(raw, axis, a, b, &places);
+        from = b + 1;
+    }
+}
+
 /// The first pair that is neither allowed, nor refuted, nor without a match.
 #[tactic(auto, using(wt_grid::proofs::First::first_more))]
-pub fn pairs_fault(raw: &RawStep, axis: Axis) -> Option<StepFault>
-    requires { IsShaped raw.now }
+pub fn pairs_fault(
+    raw: &RawStep,
+    sides: &Sides<'_>,
+    rows: &Rows<'_>,
+    axis: Axis,
+) -> Option<StepFault>
+    requires shaped { IsShaped raw.now }
+    requires of_fine { sides.now.tiles.now ≡ raw.now.fine.tiles }
+    requires of_pairs { rows.now.pairs.now ≡ words.allowed raw.now axis }
     ensures { result ≡ faults.pairs_fault raw.now axis }
 {
-    let sides = Sides::new(SetRef::of(&raw.fine).tiles());
     let mut places = first_places(raw, axis);
     for a in 0..count_tiles(raw) {
-        match row_fault(raw, &sides, axis, a, places) {
+        match row_fault(raw, sides, &rows.row(usize::from(a)), axis, a, places) {
             Ok(next) => places = next,
             Err(fault) => return Some(fault),
         }

@@ -1,12 +1,10 @@
-use Rattle.std.proofs.Common.{arith, rules, sym}
+use Rattle.std.proofs.Common.{arith, rules}
 use Rattle.std.proofs.lemmas.Grind.{common_steps}
-use Rattle.wt_step.specs.Words.{allowed}
-use Rattle.wt_step.proofs.Passed.{none_passed, radius_rises}
+use Rattle.wt_step.proofs.Passed.{radius_rises}
 use Rattle.wt_step.proofs.walk.first_places.Goals as goal
 
 pub returns : goal.returns
 returns c = record {
-  allowed = sym (none_passed (allowed c.args.raw.now c.args.axis));
   refuted = λ radius le. c.loop-radius.invariant.placed radius (omega (arith, le, c.loop-radius-test.false));
 }
 

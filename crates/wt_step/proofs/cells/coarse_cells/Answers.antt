@@ -1,0 +1,21 @@
+use Rattle.std.proofs.Common.{rules, ◌≡◌, ◌∙◌, ap, ℕ, length}
+use Rattle.wt_grid.specs.Grid.{listed}
+use Rattle.wt_step.specs.Blocks.{coarse_at, coarse_in}
+use Rattle.wt_step.proofs.CoarseRows.{row_more, front_length}
+use Rattle.wt_step.proofs.cells.coarse_cells.Goals as goal
+
+pub loop-y-preserved : goal.loop-y-preserved
+loop-y-preserved c =
+    let s = c.args.raw.now in
+    let p = c.args.p.now in
+    let ones = c.args.index.now.singles.items in
+    let twos = c.args.index.now.pairs.items in
+    let bs = c.args.blocks.now in
+    let old : length c.deref_mut.result.now ≡ c.args.width = ap length c.deref_mut.ensures.value ∙ c.loop-y.invariant.size in
+    let len : c.loop-y.row.len ≡ c.args.width = search rules in
+    record {
+      done = row_more c.args.width c.loop-y.y (coarse_at s p ones twos bs s.axis) c.loop-y.cells.items c.push_coarse_row.new.cells.items
+          (listed (length c.deref_mut.result.now) (coarse_in s p ones twos bs c.loop-y.y)) c.loop-y.invariant.done
+          (ap (λ (n : ℕ). listed n (coarse_in s p ones twos bs c.loop-y.y)) old) (c.in_ok-push_coarse_row.ensures {u = tt}).cells;
+      size = rw len (front_length c.args.width c.push_coarse_row.new.row _ (c.push_coarse_row.ensures.size ∙ old));
+    }
