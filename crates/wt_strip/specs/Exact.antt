@@ -1,9 +1,11 @@
 -- Exact layers, and the first fault of others.
-use Rattle.std.specs.Prelude.{◌≡◌, ◌⊎◌, ℕ, suc, ◌+◌, ◌%◌, ◌<◌, List, [], ◌∷◌, length, slice_index_or, Bool, true, false, ◌&&◌, nat_eq, nat_le, if◌then◌else◌}
+use Rattle.std.specs.Prelude.{◌≡◌, ◌⊎◌, ℕ, suc, ◌+◌, ◌%◌, ◌<◌, ◌≤◌, Result, MatchResult, List, [], ◌∷◌, length, slice_index_or, Bool, true, false, ◌&&◌, nat_eq, nat_le, if◌then◌else◌}
 use Rattle.wt_tile.specs.declared.tile.Tile.{Tile}
 use Rattle.std.specs.List.{list_all}
+use Rattle.wt_grid.specs.Grid.{Grid}
 use Rattle.wt_grid.specs.Order.{is_below}
 use Rattle.wt_grid.specs.Shifts.{fill}
+use Rattle.wt_pattern.specs.Patterns.{IsPattern}
 use Rattle.wt_strip.specs.declared.layers.Layers.{Layers}
 use Rattle.wt_strip.specs.declared.limits.TheConstants.{MAX_COLUMNS, MAX_LAYERS, MAX_ROWS}
 use Rattle.wt_strip.specs.declared.layers.StripFault.{StripFault}
@@ -65,3 +67,15 @@ IsStripFault ts l f =
     ((f ≡ Shape) × (is_shaped (length ts) l ≡ false))
     ⊎ ((is_shaped (length ts) l ≡ true)
     × ((n : ℕ) × (n < length l.layers) × AreExact ts l n × IsLayerFault (IsInLayer ts l.width n) l.width (layer_at l n) (n + 1) f))
+
+-- whether a layer lists a set of rows is told: that it does, or its first fault
+abbrev pub TellsLayer : (List ℕ → Type 0) → ℕ → List ℕ → ℕ → Result (Unit {0}) StripFault → Type 0
+TellsLayer In w cells layer result = MatchResult result (λ u. IsListOf In w cells) (IsLayerFault In w cells layer)
+
+-- no valid pattern has at least the width and height of the layers
+abbrev pub Forbids : List Tile → Layers → Type 0
+Forbids ts l = (g : Grid) → IsPattern ts g → l.width ≤ g.width → length l.layers ≤ g.height → ⊥
+
+-- there is a valid pattern of this width and height
+abbrev pub HasPattern : List Tile → ℕ → ℕ → Type 0
+HasPattern ts w h = (g : Grid) × IsPattern ts g × (g.width ≡ w) × (g.height ≡ h)

@@ -19,3 +19,7 @@ abbrev pub HasAllGathered : List Tile → List (List ℕ) → ℕ → ℕ → �
 HasAllGathered ts allowed w x t start old new =
     (q : List ℕ) → length q ≡ w → IsWay ts allowed w q → AreAlike x q start → slice_index q x < t
     → (r : ℕ) × (rows_in w old ≤ r) × (r < rows_in w new) × (row_at w new r ≡ q)
+
+-- the same where column x may have any tile
+abbrev pub HasEachGathered : List Tile → List (List ℕ) → ℕ → ℕ → List ℕ → List ℕ → List ℕ → Type 0
+HasEachGathered ts allowed w x start old new = HasAllGathered ts allowed w x (length ts) start old new

@@ -1,5 +1,6 @@
 -- Lists of rows, kept one row after the other.
-use Rattle.std.specs.Prelude.{◌≡◌, ℕ, zero, suc, ◌+◌, ◌*◌, ◌/◌, ◌<◌, List, length, slice_range, Bool, true}
+use Rattle.std.specs.Prelude.{◌≡◌, ℕ, zero, suc, ◌+◌, ◌*◌, ◌/◌, ◌<◌, List, length, slice_range, Bool, true, Option, MatchOption, Vec}
+use Rattle.std.specs.declared.alloc.Global.{Global}
 use Rattle.std.specs.Ordering.{nat_cmp, is_lt}
 use Rattle.std.specs.Cmp.Lexicographic.{slice_cmp}
 use Rattle.wt_tile.specs.declared.tile.Tile.{Tile}
@@ -49,3 +50,19 @@ HasMore In w room = (cells : List ℕ) × IsSorted w cells × ((r : ℕ) → r <
 abbrev pub IsUpon : List Tile → ℕ → ℕ → List ℕ → List ℕ → Type 0
 IsUpon ts w zero below q = IsRow ts w q
 IsUpon ts w (suc n) below q = IsRow ts w q × ((r : ℕ) × (r < rows_in w below) × IsUnder ts w (row_at w below r) q)
+
+-- q is row r
+abbrev pub IsRowAt : ℕ → List ℕ → List ℕ → ℕ → Type 0
+IsRowAt w cells q r = (r < rows_in w cells) × (row_at w cells r ≡ q)
+
+-- each row is in the set
+abbrev pub AllRows : (List ℕ → Type 0) → ℕ → List ℕ → Type 0
+AllRows In w cells = (r : ℕ) → r < rows_in w cells → In (row_at w cells r)
+
+-- q can't be laid upon any of the rows
+abbrev pub NoneUnder : List Tile → ℕ → List ℕ → List ℕ → Type 0
+NoneUnder ts w below q = (r : ℕ) → r < rows_in w below → IsUnder ts w (row_at w below r) q → ⊥
+
+-- what is found are the rows of a set, or None where they are more than there is room for
+abbrev pub IsLayerOrMore : (List ℕ → Type 0) → ℕ → ℕ → Option (Vec ℕ Global) → Type 0
+IsLayerOrMore In w room found = MatchOption found (HasMore In w room) (λ cells. IsLayer In w cells.items)

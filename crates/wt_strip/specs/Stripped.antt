@@ -14,6 +14,7 @@ use Rattle.wt_strip.specs.declared.making.StripEnd.TheVariants.{TooManyRows, Out
 use Rattle.wt_strip.specs.Layers.{IsRow, IsUnder, IsInLayer}
 use Rattle.wt_strip.specs.Listed.{rows_in, row_at, IsListed, IsSorted, IsLayer, HasMore}
 use Rattle.wt_strip.specs.Exact.{IsExact, IsStripFault}
+use Rattle.wt_strip.specs.Walks.{IsNotBehind}
 
 -- the first layers of valid rows, none of them empty, that have no more rows in all than there may be
 pub record AreFilled (ts : List Tile) (w : ℕ) (made : List (List ℕ)) : Type 0 where
@@ -67,3 +68,15 @@ AreStuckUnder ts w h m cells = AreStuck ts w m (IsInLayer ts w (h - suc m)) cell
 abbrev pub IsNextRow : List Tile → ℕ → ℕ → List ℕ → List ℕ → Type 0
 IsNextRow ts w zero p q = IsRow ts w q
 IsNextRow ts w (suc y) p q = IsRow ts w q × IsUnder ts w p q
+
+-- for each of h layers, the rows that are stuck under m others, m from 0 on
+abbrev pub AreAllStuck : List Tile → ℕ → ℕ → List (List ℕ) → Type 0
+AreAllStuck ts w h stuck = (length stuck ≡ h) × ((m : ℕ) → m < h → AreStuckUnder ts w h m (slice_index_or stuck m []))
+
+-- the row comes at latest with each next row that isn't listed
+abbrev pub LeadsNext : List Tile → ℕ → ℕ → List ℕ → List ℕ → List ℕ → Type 0
+LeadsNext ts w y p listed row = (q : List ℕ) → IsNextRow ts w y p q → (IsListed w listed q → ⊥) → IsNotBehind w row q
+
+-- each next row is listed
+abbrev pub ListsNext : List Tile → ℕ → ℕ → List ℕ → List ℕ → Type 0
+ListsNext ts w y p listed = (q : List ℕ) → IsNextRow ts w y p q → IsListed w listed q

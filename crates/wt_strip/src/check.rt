@@ -1,13 +1,10 @@
 //! The check of layers.
-ghost use Rattle.std.specs.Prelude.{◌≡◌, ◌<◌, ◌≤◌, ◌+◌, ◌%◌, ℕ, suc, List, true, false, length, slice_index, IfOk, MatchOption, MatchResult};
-ghost use Rattle.wt_tile.specs.Matching.{matches};
+ghost use Rattle.std.specs.Prelude.{◌≡◌, ◌<◌, ◌≤◌, ◌+◌, ◌%◌, ℕ, List, true, false, length, slice_index, IfOk, MatchOption, MatchResult};
 ghost use Rattle.std.specs.List.{list_all};
 ghost use Rattle.wt_grid.specs.Order.{is_below};
-ghost use Rattle.wt_grid.specs.Grid.{Grid};
-ghost use Rattle.wt_pattern.specs.Patterns.{IsPattern};
-ghost use Rattle.wt_strip.specs.Layers.{IsRow, IsUnder};
-ghost use Rattle.wt_strip.specs.Listed.{rows_in, row_at, IsAscending, IsListed, IsListOf, IsUpon};
-ghost use Rattle.wt_strip.specs.Exact.{IsStranger, HasMissing, IsLayerFault, IsExact, IsStripFault};
+ghost use Rattle.wt_strip.specs.Layers.{IsRow, IsUnder, MatchesAcross, IsMismatch};
+ghost use Rattle.wt_strip.specs.Listed.{rows_in, row_at, IsAscending, IsListed, IsUpon, NoneUnder, AllRows};
+ghost use Rattle.wt_strip.specs.Exact.{IsStranger, HasMissing, IsExact, IsStripFault, TellsLayer, Forbids};
 
 use crate::limits::{MAX_COLUMNS, MAX_LAYERS};
 use crate::rows::{drop_in, past_alike, row};
@@ -19,8 +16,8 @@ use wt_tile::{Axis, SetRef, Tile, is_match};
 
 /// Whether a row's tiles match from left to right.
 fn is_across(tiles: &[Tile], q: &[u16]) -> bool
-    ensures valid { result ≡ true → (x : ℕ) → suc x < length q.now → matches tiles.now Axis.One (slice_index q.now x) (slice_index q.now (suc x)) ≡ true }
-    ensures fault { result ≡ false → ((x : ℕ) → suc x < length q.now → matches tiles.now Axis.One (slice_index q.now x) (slice_index q.now (suc x)) ≡ true) → ⊥ }
+    ensures valid { result ≡ true → MatchesAcross tiles.now q.now }
+    ensures fault { result ≡ false → MatchesAcross tiles.now q.now → ⊥ }
 {
     for x in 1..q.len() {
         if !is_match(tiles, Axis::One, q[x - 1], q[x]) {
@@ -33,8 +30,7 @@ fn is_across(tiles: &[Tile], q: &[u16]) -> bool
 /// The first column in which a row doesn't match one above it, of its length.
 fn clash(tiles: &[Tile], p: &[u16], q: &[u16]) -> Option<usize>
     requires { length p.now ≡ length q.now }
-    ensures { MatchOption result (IsUnder tiles.now (length q.now) p.now q.now)
-        (λ x. (x < length q.now) × (matches tiles.now Axis.Two (slice_index p.now x) (slice_index q.now x) ≡ false)) }
+    ensures { MatchOption result (IsUnder tiles.now (length q.now) p.now q.now) (IsMismatch tiles.now p.now q.now) }
 {
     for x in 0..q.len() {
         if !is_match(tiles, Axis::Two, p[x], q[x]) {
@@ -51,7 +47,7 @@ fn has_under(tiles: &[Tile], w: usize, below: &[u16], q: &[u16]) -> bool
     requires long { length q.now ≡ w }
     requires ascending { IsAscending w below.now (rows_in w below.now) }
     ensures under { result ≡ true → (r : ℕ) × (r < rows_in w below.now) × IsUnder tiles.now w (row_at w below.now r) q.now }
-    ensures fault { result ≡ false → (r : ℕ) → r < rows_in w below.now → IsUnder tiles.now w (row_at w below.now r) q.now → ⊥ }
+    ensures fault { result ≡ false → NoneUnder tiles.now w below.now q.now }
 {
     let mut r = 0usize;
     'rows: while r < below.len() / w {
@@ -86,8 +82,7 @@ fn stranger_in(tiles: &[Tile], w: usize, n: usize, below: &[u16], cells: &[u16])
     requires wide { 1 ≤ w }
     requires tiles { list_all (is_below (length tiles.now)) cells.now ≡ true }
     requires ascending { IsAscending w below.now (rows_in w below.now) }
-    ensures { MatchOption result ((r : ℕ) → r < rows_in w cells.now → IsUpon tiles.now w n below.now (row_at w cells.now r))
-        (λ r. IsStranger (IsUpon tiles.now w n below.now) w cells.now r) }
+    ensures { MatchOption result (AllRows (IsUpon tiles.now w n below.now) w cells.now) (IsStranger (IsUpon tiles.now w n below.now) w cells.now) }
 {
     for r in 0..cells.len() / w {
         if !is_upon(tiles, w, n, below, row(w, cells, r)) {
@@ -134,8 +129,7 @@ fn check_layer(
     requires low { n < MAX_LAYERS }
     requires tiles { list_all (is_below (length sides.now.tiles.now)) cells.now ≡ true }
     requires ascending { IsAscending w below.now (rows_in w below.now) }
-    ensures { MatchResult result (λ u. IsListOf (IsUpon sides.now.tiles.now w n below.now) w cells.now)
-        (λ f. IsLayerFault (IsUpon sides.now.tiles.now w n below.now) w cells.now (n + 1) f) }
+    ensures { TellsLayer (IsUpon sides.now.tiles.now w n below.now) w cells.now (n + 1) result }
 {
     let layer = n + 1;
     if let Some(row) = drop_in(w, cells) {
@@ -155,9 +149,8 @@ fn check_layer(
 /// as they are layers exists then. Else their first fault: the shape first, then for each layer the order of its rows, a row
 /// that isn't of the layer, and a row of the layer that isn't listed. Takes no memory.
 pub fn check_strip(set: SetRef, layers: &Layers) -> Result<(), StripFault>
-    ensures fault { MatchResult result (λ u. IsExact set.entry.list.now.tiles layers.now) (λ f. IsStripFault set.entry.list.now.tiles layers.now f) }
-    ensures forbids { IfOk result (λ u. (g : Grid) → IsPattern set.entry.list.now.tiles g
-        → layers.now.width ≤ g.width → length layers.now.layers ≤ g.height → ⊥) }
+    ensures fault { MatchResult result (λ u. IsExact set.entry.list.now.tiles layers.now) (IsStripFault set.entry.list.now.tiles layers.now) }
+    ensures forbids { IfOk result (λ u. Forbids set.entry.list.now.tiles layers.now) }
 {
     if !is_shaped(set.len(), layers) {
         return Err(StripFault::Shape);

@@ -1,8 +1,8 @@
 //! The rows that columns allow, listed in ascending order.
-ghost use Rattle.std.specs.Prelude.{◌≡◌, ◌<◌, ◌≤◌, ◌+◌, ◌*◌, ◌++◌, ℕ, List, true, false, length, IfOk, OnOk};
-ghost use Rattle.wt_strip.specs.Listed.{rows_in, row_at, IsListOf, IsSorted};
-ghost use Rattle.wt_strip.specs.Walks.{IsWay, AreAlike};
-ghost use Rattle.wt_strip.specs.Gathered.{AreGathered, HasAllGathered};
+ghost use Rattle.std.specs.Prelude.{◌≡◌, ◌<◌, ◌≤◌, ◌+◌, ◌*◌, ◌++◌, List, true, false, length, IfOk, OnOk};
+ghost use Rattle.wt_strip.specs.Listed.{rows_in, IsListOf, IsSorted, AllRows};
+ghost use Rattle.wt_strip.specs.Walks.{IsWay, AreAlike, IsWholeWay};
+ghost use Rattle.wt_strip.specs.Gathered.{AreGathered, HasEachGathered};
 
 use crate::limits::MAX_COLUMNS;
 use crate::walk::{Columns, coming, prune};
@@ -38,7 +38,7 @@ fn gather_from(
     ensures long { length row.new ≡ MAX_COLUMNS }
     ensures same { OnOk result (AreAlike x row.new row.old) }
     ensures gathered { OnOk result (AreGathered sides.now.tiles.now allowed.now w x (length sides.now.tiles.now) row.old cells.old.items cells.new.items) }
-    ensures all { IfOk result (λ done. done ≡ true → HasAllGathered sides.now.tiles.now allowed.now w x (length sides.now.tiles.now) row.old cells.old.items cells.new.items) }
+    ensures all { IfOk result (λ done. done ≡ true → HasEachGathered sides.now.tiles.now allowed.now w x row.old cells.old.items cells.new.items) }
     ensures more { IfOk result (λ done. done ≡ false → room < rows_in w cells.new.items) }
 {
     if x == w {
@@ -67,10 +67,9 @@ pub fn gathered(
 ) -> Result<(Vec<u16>, bool), AllocError>
     requires wide { 1 ≤ w }
     requires narrow { w ≤ MAX_COLUMNS }
-    ensures all { IfOk result (λ found. found.1 ≡ true → IsListOf (λ q. (length q ≡ w) × IsWay sides.now.tiles.now allowed.old w q) w found.0.items) }
+    ensures all { IfOk result (λ found. found.1 ≡ true → IsListOf (IsWholeWay sides.now.tiles.now allowed.old w) w found.0.items) }
     ensures sorted { IfOk result (λ found. IsSorted w found.0.items) }
-    ensures right { IfOk result (λ found. (r : ℕ) → r < rows_in w found.0.items
-        → (length (row_at w found.0.items r) ≡ w) × IsWay sides.now.tiles.now allowed.old w (row_at w found.0.items r)) }
+    ensures right { IfOk result (λ found. AllRows (IsWholeWay sides.now.tiles.now allowed.old w) w found.0.items) }
     ensures more { IfOk result (λ found. found.1 ≡ false → room < rows_in w found.0.items) }
 {
     let mut cells = Vec::new(alloc);

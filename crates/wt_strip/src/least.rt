@@ -1,8 +1,7 @@
 //! The least pattern of as many rows as there are layers.
-ghost use Rattle.std.specs.Prelude.{◌≡◌, ◌≤◌, ◌<◌, ◌+◌, ℕ, suc, [], List, true, false, length, take, slice_index_or, IfOk};
+ghost use Rattle.std.specs.Prelude.{◌≡◌, ◌≤◌, ◌<◌, ◌+◌, suc, true, false, length, take, IfOk};
 ghost use Rattle.wt_strip.specs.Listed.{rows_in, IsAscending, IsListed};
-ghost use Rattle.wt_strip.specs.Walks.{IsNotBehind};
-ghost use Rattle.wt_strip.specs.Stripped.{AreFilled, AreStuckUnder, IsNextRow, IsLeastPattern};
+ghost use Rattle.wt_strip.specs.Stripped.{AreFilled, AreStuckUnder, IsNextRow, IsLeastPattern, AreAllStuck, LeadsNext, ListsNext};
 
 use crate::gather::push_row;
 use crate::limits::{MAX_COLUMNS, MAX_LAYERS};
@@ -53,8 +52,7 @@ fn stuck_rows(
     requires narrow { w ≤ MAX_COLUMNS }
     requires some { 1 ≤ length made.now }
     requires made { AreFilled sides.now.tiles.now w made.now }
-    ensures { IfOk result (λ stuck. (length stuck.items ≡ length made.now)
-        × ((m : ℕ) → m < length made.now → AreStuckUnder sides.now.tiles.now w (length made.now) m (slice_index_or stuck.items m []))) }
+    ensures { IfOk result (λ stuck. AreAllStuck sides.now.tiles.now w (length made.now) stuck.items) }
 {
     let mut stuck: Vec<Seq<u16>> = Vec::new(alloc);
     stuck.push(Seq::new(Vec::new(alloc)))?;
@@ -79,8 +77,8 @@ fn next_row(
     ensures long { length row.new ≡ MAX_COLUMNS }
     ensures next { result ≡ true → IsNextRow sides.now.tiles.now w y (take w row.old) (take w row.new) }
     ensures missing { result ≡ true → IsListed w listed.now (take w row.new) → ⊥ }
-    ensures first { result ≡ true → (q : List ℕ) → IsNextRow sides.now.tiles.now w y (take w row.old) q → (IsListed w listed.now q → ⊥) → IsNotBehind w (take w row.new) q }
-    ensures none { result ≡ false → (q : List ℕ) → IsNextRow sides.now.tiles.now w y (take w row.old) q → IsListed w listed.now q }
+    ensures first { result ≡ true → LeadsNext sides.now.tiles.now w y (take w row.old) listed.now (take w row.new) }
+    ensures none { result ≡ false → ListsNext sides.now.tiles.now w y (take w row.old) listed.now }
 {
     if y == 0 {
         return first_missing(sides, w, &mut all_allowed(sides), listed, row);

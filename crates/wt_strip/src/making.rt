@@ -1,8 +1,8 @@
 //! All layers of a width up to an empty one, or the least pattern of as many rows.
-ghost use Rattle.std.specs.Prelude.{◌≡◌, ◌≤◌, ◌<◌, ◌-◌, length, IfOk, MatchOption, MatchResult};
+ghost use Rattle.std.specs.Prelude.{◌≡◌, ◌≤◌, ◌<◌, ◌-◌, length, IfOk, MatchResult};
 ghost use Rattle.wt_grid.specs.Shifts.{fill};
 ghost use Rattle.wt_strip.specs.Layers.{IsInLayer};
-ghost use Rattle.wt_strip.specs.Listed.{rows_in, IsLayer, HasMore};
+ghost use Rattle.wt_strip.specs.Listed.{rows_in, IsLayerOrMore};
 ghost use Rattle.wt_strip.specs.Stripped.{AreFilled, IsLeastPattern, IsStripped, IsStripEnd, HasNoFault};
 ghost use Rattle.wt_strip.specs.declared.making.StripEnd.TheVariants as spec;
 
@@ -65,8 +65,7 @@ fn layer_upon(
     requires wide { 1 ≤ w }
     requires narrow { w ≤ MAX_COLUMNS }
     requires made { AreFilled sides.now.tiles.now w made.now }
-    ensures { IfOk result (λ found. MatchOption found (HasMore (IsInLayer sides.now.tiles.now w (length made.now)) w room)
-        (λ cells. IsLayer (IsInLayer sides.now.tiles.now w (length made.now)) w cells.items)) }
+    ensures { IfOk result (IsLayerOrMore (IsInLayer sides.now.tiles.now w (length made.now)) w room) }
 {
     if made.is_empty() {
         return first_layer(alloc, sides, w, room);
@@ -85,7 +84,7 @@ fn strip_tiles(
     requires narrow { w ≤ MAX_COLUMNS }
     requires high { 1 ≤ limit }
     requires low { limit ≤ MAX_LAYERS }
-    ensures { MatchResult result (λ found. IsStripped sides.now.tiles.now w limit found) (λ end. IsStripEnd sides.now.tiles.now w limit end) }
+    ensures { MatchResult result (IsStripped sides.now.tiles.now w limit) (IsStripEnd sides.now.tiles.now w limit) }
 {
     let mut made: Vec<Seq<u16>> = Vec::new(alloc);
     let mut room = MAX_ROWS;
@@ -125,7 +124,7 @@ pub fn strip(
     requires narrow { width ≤ MAX_COLUMNS }
     requires high { 1 ≤ limit }
     requires low { limit ≤ MAX_LAYERS }
-    ensures answer { MatchResult result (λ found. IsStripped set.entry.list.now.tiles width limit found) (λ end. IsStripEnd set.entry.list.now.tiles width limit end) }
+    ensures answer { MatchResult result (IsStripped set.entry.list.now.tiles width limit) (IsStripEnd set.entry.list.now.tiles width limit) }
     ensures accepted { IfOk result (λ found. HasNoFault set.entry.list.now.tiles found) }
 {
     strip_tiles(alloc, &Sides::new(set.tiles()), width, limit)

@@ -2,7 +2,7 @@
 ghost use Rattle.std.specs.Prelude.{◌≡◌, ◌<◌, ◌≤◌, ℕ, true, false, length, MatchOption};
 ghost use Rattle.std.specs.Ordering.{nat_cmp};
 ghost use Rattle.std.specs.Cmp.Lexicographic.{slice_cmp};
-ghost use Rattle.wt_strip.specs.Listed.{rows_in, row_at, IsAscending, IsListed};
+ghost use Rattle.wt_strip.specs.Listed.{rows_in, row_at, IsAscending, IsListed, IsRowAt};
 ghost use Rattle.wt_strip.specs.Exact.{IsDrop};
 ghost use Rattle.wt_strip.specs.Walks.{AreAlike};
 
@@ -46,7 +46,7 @@ pub fn drop_in(w: usize, cells: &[u16]) -> Option<usize>
 pub fn place_of(w: usize, cells: &[u16], q: &[u16], guess: usize) -> Option<usize>
     requires wide { 1 ≤ w }
     requires ascending { IsAscending w cells.now (rows_in w cells.now) }
-    ensures { MatchOption result (IsListed w cells.now q.now → ⊥) (λ r. (r < rows_in w cells.now) × (row_at w cells.now r ≡ q.now)) }
+    ensures { MatchOption result (IsListed w cells.now q.now → ⊥) (IsRowAt w cells.now q.now) }
 {
     if guess < cells.len() / w && row(w, cells, guess) == q {
         return Some(guess);

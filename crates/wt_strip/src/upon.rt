@@ -1,7 +1,7 @@
 //! The next layer: the valid rows upon listed rows.
-ghost use Rattle.std.specs.Prelude.{◌≡◌, ◌<◌, ◌≤◌, ◌+◌, length, IfOk, MatchOption};
+ghost use Rattle.std.specs.Prelude.{◌≡◌, ◌<◌, ◌≤◌, ◌+◌, length, IfOk};
 ghost use Rattle.wt_strip.specs.Layers.{IsRow};
-ghost use Rattle.wt_strip.specs.Listed.{rows_in, IsAscending, IsUpon, IsLayer, HasMore};
+ghost use Rattle.wt_strip.specs.Listed.{rows_in, IsAscending, IsUpon, IsLayerOrMore};
 ghost use Rattle.wt_strip.specs.Merged.{IsUponSome};
 
 use crate::gather::gathered;
@@ -26,8 +26,7 @@ fn rows_upon_one(
     requires wide { 1 ≤ w }
     requires narrow { w ≤ MAX_COLUMNS }
     requires inside { r < rows_in w below.now }
-    ensures { IfOk result (λ found. MatchOption found (HasMore (IsUponSome sides.now.tiles.now w below.now r (r + 1)) w room)
-        (λ cells. IsLayer (IsUponSome sides.now.tiles.now w below.now r (r + 1)) w cells.items)) }
+    ensures { IfOk result (IsLayerOrMore (IsUponSome sides.now.tiles.now w below.now r (r + 1)) w room) }
 {
     allow_upon(sides, row(w, below, r), allowed);
     let (cells, done) = gathered(alloc, sides, w, allowed, room)?;
@@ -49,8 +48,7 @@ fn rows_upon(
     requires narrow { w ≤ MAX_COLUMNS }
     requires some { low < high }
     requires inside { high ≤ rows_in w below.now }
-    ensures { IfOk result (λ found. MatchOption found (HasMore (IsUponSome sides.now.tiles.now w below.now low high) w room)
-        (λ cells. IsLayer (IsUponSome sides.now.tiles.now w below.now low high) w cells.items)) }
+    ensures { IfOk result (IsLayerOrMore (IsUponSome sides.now.tiles.now w below.now low high) w room) }
 {
     if high - low == 1 {
         return rows_upon_one(alloc, sides, w, below, low, room, allowed);
@@ -78,7 +76,7 @@ pub fn first_layer(
 ) -> Result<Option<Vec<u16>>, AllocError>
     requires wide { 1 ≤ w }
     requires narrow { w ≤ MAX_COLUMNS }
-    ensures { IfOk result (λ found. MatchOption found (HasMore (IsRow sides.now.tiles.now w) w room) (λ cells. IsLayer (IsRow sides.now.tiles.now w) w cells.items)) }
+    ensures { IfOk result (IsLayerOrMore (IsRow sides.now.tiles.now w) w room) }
 {
     let mut allowed = all_allowed(sides);
     let (cells, done) = gathered(alloc, sides, w, &mut allowed, room)?;
@@ -96,7 +94,7 @@ pub fn next_layer(
     requires wide { 1 ≤ w }
     requires narrow { w ≤ MAX_COLUMNS }
     requires ascending { IsAscending w below.now (rows_in w below.now) }
-    ensures { IfOk result (λ found. MatchOption found (HasMore (IsUpon sides.now.tiles.now w 1 below.now) w room) (λ cells. IsLayer (IsUpon sides.now.tiles.now w 1 below.now) w cells.items)) }
+    ensures { IfOk result (IsLayerOrMore (IsUpon sides.now.tiles.now w 1 below.now) w room) }
 {
     let leads = lead_rows(alloc, sides, w, below)?;
     let count = leads.len() / w;

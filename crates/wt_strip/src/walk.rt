@@ -1,10 +1,10 @@
 //! Walks of rows in ascending order, column by column, and the search for one that isn't listed.
-ghost use Rattle.std.specs.Prelude.{◌≡◌, ◌<◌, ◌≤◌, ◌+◌, ◌-◌, ℕ, List, true, false, length, take, slice_index, replicate, MatchOption};
+ghost use Rattle.std.specs.Prelude.{◌≡◌, ◌<◌, ◌≤◌, ◌+◌, ◌-◌, ℕ, List, true, false, length, take, replicate, MatchOption};
 ghost use Rattle.wt_tile.specs.Matching.{matches};
 ghost use Rattle.wt_lane.specs.Masks.{mask_bit};
 ghost use Rattle.wt_strip.specs.Layers.{IsRow, IsUnder};
 ghost use Rattle.wt_strip.specs.Listed.{rows_in, row_at, IsAscending, IsListed};
-ghost use Rattle.wt_strip.specs.Walks.{column_allows, is_allowed, IsWay, MayCome, IsPruned, CanBear, StandsBehind, AreAlike, IsNotBehind};
+ghost use Rattle.wt_strip.specs.Walks.{column_allows, is_allowed, IsWay, MayCome, IsPruned, CanBear, StandsBehind, AreAlike, AllowsAbove, LeadsMissingAlike, ListsWaysAlike, AllowsBefore, IsBlockedAt, KeepsBefore, LeadsMissing, ListsWays, MissesWay};
 
 use crate::limits::MAX_COLUMNS;
 use crate::rows::{past_alike, place_of, row};
@@ -32,7 +32,7 @@ fn left_of(sides: &Sides<'_>, u: u16) -> [u64; 4]
 /// Lets in each column of a row stand what may stand above its tile.
 pub fn allow_upon(sides: &Sides<'_>, p: &[u16], allowed: &mut Columns)
     requires wide { length p.now ≤ MAX_COLUMNS }
-    ensures { (x t : ℕ) → x < length p.now → t < length sides.now.tiles.now → is_allowed allowed.new x t ≡ matches sides.now.tiles.now Axis.Two (slice_index p.now x) t }
+    ensures { AllowsAbove sides.now.tiles.now p.now allowed.new }
 {
     for x in 0..p.len() {
         allowed[x] = above(sides, p[x]);
@@ -87,9 +87,8 @@ fn misses_from(
     ensures long { length row.new ≡ MAX_COLUMNS }
     ensures same { AreAlike x row.new row.old }
     ensures missed { result ≡ true → IsWay sides.now.tiles.now allowed.now w row.new × (IsListed w cells.now (take w row.new) → ⊥) }
-    ensures first { result ≡ true → (q : List ℕ) → length q ≡ w → IsWay sides.now.tiles.now allowed.now w q → AreAlike x q row.old → (IsListed w cells.now q → ⊥)
-        → IsNotBehind w row.new q }
-    ensures none { result ≡ false → (q : List ℕ) → length q ≡ w → IsWay sides.now.tiles.now allowed.now w q → AreAlike x q row.old → IsListed w cells.now q }
+    ensures first { result ≡ true → LeadsMissingAlike sides.now.tiles.now allowed.now w x row.old cells.now row.new }
+    ensures none { result ≡ false → ListsWaysAlike sides.now.tiles.now allowed.now w x row.old cells.now }
 {
     if x == w {
         let Some(r) = place_of(w, cells, &row[..w], *next) else {
@@ -112,8 +111,7 @@ fn misses_from(
 
 /// The tiles before which a tile of a column may stand.
 fn before(sides: &Sides<'_>, next: &[u64; 4]) -> [u64; 4]
-    ensures { (t u : ℕ) → t < length sides.now.tiles.now → column_allows next.now u ≡ true → matches sides.now.tiles.now Axis.One t u ≡ true
-        → column_allows result t ≡ true }
+    ensures { AllowsBefore sides.now.tiles.now next.now result }
 {
     let mut mask = [0u64; 4];
     let mut from = 0usize;
@@ -140,8 +138,7 @@ fn behind(sides: &Sides<'_>, column: &[u64; 4]) -> [u64; 4]
 
 /// The first column up to which no valid row can be laid upon a row, or None where one can be laid upon all of it.
 fn blocked_at(sides: &Sides<'_>, p: &[u16]) -> Option<usize>
-    ensures { MatchOption result (CanBear sides.now.tiles.now (length p.now) p.now)
-        (λ x. (x < length p.now) × (CanBear sides.now.tiles.now (x + 1) p.now → ⊥)) }
+    ensures { MatchOption result (CanBear sides.now.tiles.now (length p.now) p.now) (IsBlockedAt sides.now.tiles.now p.now) }
 {
     let mut next = sides.all();
     for x in 0..p.len() {
@@ -179,8 +176,7 @@ pub fn bearing_from(sides: &Sides<'_>, w: usize, below: &[u16], r: usize) -> usi
 /// Of the tiles of a column those that a tile of the next column matches.
 fn narrowed(sides: &Sides<'_>, column: &[u64; 4], next: &[u64; 4]) -> [u64; 4]
     ensures fewer { (t : ℕ) → column_allows result t ≡ true → column_allows column.now t ≡ true }
-    ensures kept { (t u : ℕ) → t < length sides.now.tiles.now → column_allows column.now t ≡ true → column_allows next.now u ≡ true
-        → matches sides.now.tiles.now Axis.One t u ≡ true → column_allows result t ≡ true }
+    ensures kept { KeepsBefore sides.now.tiles.now column.now next.now result }
 {
     let mut mask = before(sides, next);
     and_into(&mut mask, column);
@@ -219,8 +215,8 @@ pub fn first_missing(
     requires ascending { IsAscending w cells.now (rows_in w cells.now) }
     ensures long { length row.new ≡ MAX_COLUMNS }
     ensures missed { result ≡ true → IsWay sides.now.tiles.now allowed.old w row.new × (IsListed w cells.now (take w row.new) → ⊥) }
-    ensures first { result ≡ true → (q : List ℕ) → length q ≡ w → IsWay sides.now.tiles.now allowed.old w q → (IsListed w cells.now q → ⊥) → IsNotBehind w row.new q }
-    ensures none { result ≡ false → (q : List ℕ) → length q ≡ w → IsWay sides.now.tiles.now allowed.old w q → IsListed w cells.now q }
+    ensures first { result ≡ true → LeadsMissing sides.now.tiles.now allowed.old w cells.now row.new }
+    ensures none { result ≡ false → ListsWays sides.now.tiles.now allowed.old w cells.now }
 {
     if !prune(sides, w, allowed) {
         return false;
@@ -233,8 +229,8 @@ pub fn misses(sides: &Sides<'_>, w: usize, allowed: &mut Columns, cells: &[u16])
     requires wide { 1 ≤ w }
     requires narrow { w ≤ MAX_COLUMNS }
     requires ascending { IsAscending w cells.now (rows_in w cells.now) }
-    ensures missed { result ≡ true → (q : List ℕ) × (length q ≡ w) × IsWay sides.now.tiles.now allowed.old w q × (IsListed w cells.now q → ⊥) }
-    ensures none { result ≡ false → (q : List ℕ) → length q ≡ w → IsWay sides.now.tiles.now allowed.old w q → IsListed w cells.now q }
+    ensures missed { result ≡ true → MissesWay sides.now.tiles.now allowed.old w cells.now }
+    ensures none { result ≡ false → ListsWays sides.now.tiles.now allowed.old w cells.now }
 {
     let mut row = [0u16; MAX_COLUMNS];
     first_missing(sides, w, allowed, cells, &mut row)
