@@ -8,7 +8,7 @@ use Rattle.wt_chain.specs.declared.push.PushFault.{PushFault}
 use Rattle.wt_chain.specs.declared.push.PushFault.TheVariants.{NotNext, TooMany}
 use Rattle.wt_chain.specs.Versions.{version_of}
 use Rattle.wt_chain.specs.Sets.{comes_next, set_behind}
-use Rattle.wt_chain.specs.Faults.{steps_fault}
+use Rattle.wt_chain.specs.Faults.{steps_fault, close_fault}
 
 -- 1 to 32 good steps, each of which takes apart the set before it, with the version that has them
 pub record IsOpen (links : List RawLink) (version : Version) : Type 0 where
@@ -25,3 +25,8 @@ looped links start renaming expansion = record { version = version_of links; ste
 abbrev pub push_fault : List RawLink → RawLink → Option PushFault
 push_fault links link =
     if comes_next (set_behind links) link then (if nat_lt (length links) 32 then None else Some TooMany) else Some NotNext
+
+-- the steps may be closed so, and make this chain
+abbrev pub IsClosedAs : List RawLink → ℕ → List ℕ → ℕ → RawChain → Type 0
+IsClosedAs links start renaming expansion chain =
+    (close_fault links start renaming expansion ≡ None) × (chain ≡ looped links start renaming expansion)

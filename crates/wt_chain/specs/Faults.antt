@@ -1,5 +1,5 @@
 -- The first failing condition of a chain.
-use Rattle.std.specs.Prelude.{ℕ, ◌+◌, List, [], ◌∷◌, length, drop, Option, None, Some, Bool, ◌&&◌, option_map, is_none, nat_lt, if◌then◌else◌}
+use Rattle.std.specs.Prelude.{ℕ, ◌+◌, List, [], ◌∷◌, length, drop, Option, None, Some, ◌≢◌, Bool, ◌&&◌, option_map, is_none, nat_lt, if◌then◌else◌}
 use Rattle.wt_grid.specs.Unless.{unless}
 use Rattle.wt_tile.specs.declared.tile.TileList.{TileList}
 use Rattle.wt_grid.specs.First.{or_else, first_from}
@@ -12,7 +12,7 @@ use Rattle.wt_chain.specs.declared.raw.End.TheVariants.{Open, Loop}
 use Rattle.wt_chain.specs.declared.raw.Refusal.{Refusal}
 use Rattle.wt_chain.specs.declared.raw.Refusal.TheVariants.{Empty, TooManySteps, Version, Step, NotNext, Start, Renaming, Expansion}
 use Rattle.wt_chain.specs.Versions.{version_fits}
-use Rattle.wt_chain.specs.Sets.{comes_next, last_set}
+use Rattle.wt_chain.specs.Sets.{comes_next, last_set, first_count}
 use Rattle.wt_chain.specs.Growth.{has_grown}
 use Rattle.wt_chain.specs.Tables.{entry}
 
@@ -75,3 +75,11 @@ end_fault links (Loop start renaming expansion) = loop_fault (drop start links) 
 -- The first failing condition, in the order of the variants: first the number of steps and the version, then each step with the set before it, then the end.
 unfoldable pub chain_fault : RawChain → Option Refusal
 chain_fault c = or_else (size_fault c) (or_else (steps_fault c.steps) (end_fault c.steps c.end))
+
+-- the first condition of a loop that fails, where these steps are closed so
+abbrev pub close_fault : List RawLink → ℕ → List ℕ → ℕ → Option Refusal
+close_fault links start renaming expansion = end_fault links (Loop start renaming expansion)
+
+-- after no number of turns the image of each tile is wide and high enough
+abbrev pub NeverGrows : List RawLink → List ℕ → Type 0
+NeverGrows loop renaming = (turns : ℕ) → growth_fault loop renaming turns (first_count loop) ≢ None

@@ -1,10 +1,11 @@
 // Good chains.
-ghost use Rattle.std.specs.Prelude.{◌≡◌, ◌<◌, ◌≤◌, None, Some, MatchResult, IfOk, IfErr, ◌≢◌, length, slice_get};
+ghost use Rattle.std.specs.Prelude.{◌≡◌, ◌<◌, ◌≤◌, None, Some, IfOk, IfErr, ◌≢◌, length, slice_get};
 ghost use Rattle.wt_chain.specs.declared.raw.End.TheVariants.{Open};
 ghost use Rattle.wt_chain.specs.declared.raw.Version.TheVariants.{Two};
 ghost use Rattle.wt_step.specs.Views.{link_of};
 ghost use Rattle.wt_chain.specs.Sets.{set_at};
 ghost use Rattle.wt_chain.specs.Faults as spec;
+ghost use Rattle.wt_grid.specs.Answers.{TakesUnless};
 
 use crate::copy::copy_chain;
 use crate::faults::chain_fault;
@@ -39,9 +40,7 @@ impl Model for Accepted {
 impl Accepted {
     /// Takes a good chain, or tells its first failing condition. Takes no memory.
     pub fn new(raw: RawChain) -> Result<Accepted, (RawChain, Refusal)>
-        ensures { MatchResult result
-            (λ chain. (chain ≡ raw) × (spec.chain_fault raw ≡ None))
-            (λ e. (e.0 ≡ raw) × (spec.chain_fault raw ≡ Some e.1)) }
+        ensures { TakesUnless result raw (spec.chain_fault raw) }
     {
         match chain_fault(&raw) {
             None => Ok(Accepted { raw }),

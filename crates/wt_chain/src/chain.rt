@@ -1,5 +1,5 @@
 // Chains that are being put together.
-ghost use Rattle.std.specs.Prelude.{◌≡◌, ◌<◌, ◌≤◌, ◌∷◌, ◌++◌, ◌≢◌, ℕ, [], drop, length, slice_get, None, Some, MatchResult, IfOk, IfErr, unwrap_or};
+ghost use Rattle.std.specs.Prelude.{◌≡◌, ◌<◌, ◌≤◌, ◌∷◌, ◌++◌, [], drop, length, slice_get, None, Some, MatchResult, IfOk, IfErr, unwrap_or};
 ghost use Rattle.wt_step.specs.Views.{link_of};
 ghost use Rattle.wt_chain.specs.declared.raw.End.TheVariants.{Open, Loop};
 ghost use Rattle.wt_chain.specs.declared.push.PushFault.TheVariants as push_fault_variants;
@@ -129,9 +129,8 @@ impl Chain {
         renaming: Vec<u16>,
         expansion: u32,
     ) -> Result<Accepted, (Chain, Vec<u16>, Refusal)>
-        ensures ok { IfOk result (λ chain. (fault_words.end_fault self (Loop start renaming.items expansion) ≡ None)
-            × (chain ≡ chains.looped self start renaming.items expansion)) }
-        ensures err { IfErr result (λ e. (fault_words.end_fault self (Loop start renaming.items expansion) ≡ Some e.2)
+        ensures ok { IfOk result (chains.IsClosedAs self start renaming.items expansion) }
+        ensures err { IfErr result (λ e. (fault_words.close_fault self start renaming.items expansion ≡ Some e.2)
             × (e.0 ≡ self) × (e.1.items ≡ renaming.items)) }
     {
         match loop_fault(steps_from(&self.steps, start), &renaming, expansion) {
@@ -155,8 +154,7 @@ impl Chain {
     pub fn expansion(&self, start: u16, renaming: &[u16]) -> Option<u32>
         requires { IsRenamed (drop start self.now) renaming.now }
         ensures value { result ≡ fault_words.least_expansion (drop start self.now) renaming.now (first_count (drop start self.now)) }
-        ensures never { result ≡ None → (turns : ℕ)
-            → fault_words.growth_fault (drop start self.now) renaming.now turns (first_count (drop start self.now)) ≢ None }
+        ensures never { result ≡ None → fault_words.NeverGrows (drop start self.now) renaming.now }
     {
         loop_expansion(steps_from(&self.steps, start), renaming)
     }
