@@ -33,3 +33,11 @@ pulled_through (link ∷ links) f = pulled_through links (pulled_by link f)
 abbrev pub AreCarriedMasks : List RawLink → List (List ℕ) → List (List ℕ) → Type 0
 AreCarriedMasks links old new = (set : TileList) (weights : ℕ → ℕ → ℕ) → AreLinked set links → AreMasks (length set.tiles) old weights
     → AreMasks (length (last_set set links).tiles) new (λ u. pulled_through links (weights u))
+
+-- the masks of n tiles all have the first n tiles
+abbrev pub AreFull : ℕ → List (List ℕ) → Type 0
+AreFull n rows = (t u : ℕ) → t < n → u < n → mask_bit (mask_at rows t) u ≡ 1
+
+-- the mask of one of n tiles lacks one of the first n
+abbrev pub HasGap : ℕ → List (List ℕ) → Type 0
+HasGap n rows = (t : ℕ) × (u : ℕ) × (t < n) × (u < n) × (mask_bit (mask_at rows t) u ≡ 1 → ⊥)

@@ -5,12 +5,13 @@ use Rattle.wt_tile.specs.declared.tile.TileList.{TileList}
 use Rattle.wt_bijection.specs.Carried.{IsRenaming}
 use Rattle.wt_grid.specs.Grid.{Grid}
 use Rattle.wt_grid.specs.Widths.{total}
+use Rattle.wt_pattern.specs.Patterns.{IsPattern}
 use Rattle.wt_step.specs.declared.raw.RawLink.{RawLink}
 use Rattle.wt_chain.specs.declared.raw.RawChain.{RawChain}
 use Rattle.wt_chain.specs.Looped.{IsLooped}
 use Rattle.wt_chain.specs.Sets.{AreLinked, last_set, first_count}
 use Rattle.wt_chain.specs.Growth.{image_of, origin}
-use Rattle.wt_chain.specs.Turns.{turned_times, single}
+use Rattle.wt_chain.specs.Turns.{turned_times, turned, image_through, single}
 use Rattle.wt_grid.specs.declared.limits.TheConstants.{MAX_TILES}
 
 -- the power of the loop's map, on one tile
@@ -85,3 +86,35 @@ pub record IsClosed (loop : List RawLink) (renaming : List ℕ) : Type 0 where
   pub counted : length set.tiles ≡ first_count loop
   pub linked : AreLinked set loop
   pub renames : IsRenaming (last_set set loop).tiles set.tiles renaming
+
+-- n has been added to the count of one tile
+abbrev pub IsOneAdded : List ℕ → List ℕ → ℕ → ℕ → Type 0
+IsOneAdded old new n tile = (u : ℕ) → u < MAX_TILES → slice_index new u ≡ slice_index old u + n * unit u tile
+
+-- its count would be 2^128 or more then
+abbrev pub IsOneTooLarge : List ℕ → ℕ → ℕ → Type 0
+IsOneTooLarge old n tile = (tile < MAX_TILES) × (2 ^ 128 ≤ slice_index old tile + n)
+
+-- the counts of a valid pattern of the last set become those of its image under these steps, or none where one is 2^128 or more
+abbrev pub CountsThrough : List RawLink → List ℕ → Option (List ℕ) → Type 0
+CountsThrough links old new =
+    (set : TileList) (q : Grid) → AreLinked set links → IsPattern (last_set set links).tiles q → AreCounts old q
+    → AreCountsOrLarge new (image_through links q)
+
+-- the counts of a valid pattern of a loop's first set become those of what one turn makes of it, or none where one is 2^128 or more
+abbrev pub CountsTurned : List RawLink → List ℕ → List ℕ → Option (List ℕ) → Type 0
+CountsTurned loop renaming old new =
+    (closed : IsClosed loop renaming) (g : Grid) → IsPattern closed.set.tiles g → AreCounts old g
+    → AreCountsOrLarge new (turned loop renaming g)
+
+-- a tile of the loop's first set
+abbrev pub IsLoopTile : {c : RawChain} → IsLooped c → ℕ → Type 0
+IsLoopTile {c} loop t = t < first_count (drop loop.start c.steps)
+
+-- how often tile u stands in what n turns make of tile t
+abbrev pub loop_count : {c : RawChain} → IsLooped c → ℕ → ℕ → ℕ → ℕ
+loop_count loop n t u = count u (loop_power loop n t)
+
+-- the same of all tiles that m turns make of tile t, together
+abbrev pub count_after : {c : RawChain} → IsLooped c → ℕ → ℕ → ℕ → ℕ → ℕ
+count_after loop m n t u = total (λ v. loop_count loop n v u) (loop_power loop m t).cells

@@ -108,3 +108,11 @@ HasSeedFault (Loop start renaming expansion) e = e ≡ OutOfMemory
 abbrev pub IsAscending : List (List ℕ) → Type 0
 IsAscending [] = Unit {0}
 IsAscending (x ∷ xs) = ((y : List ℕ) → Contains xs y → IsBefore x y) × IsAscending xs
+
+-- the list is one of the seeds of the q-th power of a loop's map
+abbrev pub IsSeed : List RawLink → List ℕ → ℕ → List ℕ → Type 0
+IsSeed loop renaming q seed = Contains (loop_seeds loop renaming q) seed
+
+-- a list of four numbers
+abbrev pub HasFour : List ℕ → Type 0
+HasFour xs = (a : ℕ) × (b : ℕ) × (c : ℕ) × (d : ℕ) × (xs ≡ a ∷ b ∷ c ∷ d ∷ [])

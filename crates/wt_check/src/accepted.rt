@@ -1,7 +1,5 @@
 // The report of a good chain.
-ghost use Rattle.std.specs.Prelude.{◌≡◌, ◌++◌, IfOk, OnOk, string_bytes, codes};
-ghost use Rattle.std.specs.Fmt.{decimal};
-ghost use Rattle.wt_chain.specs.Sets as sets;
+ghost use Rattle.std.specs.Prelude.{◌≡◌, ◌++◌, IfOk, OnOk, string_bytes};
 ghost use Rattle.wt_check.specs.Texts.{sizes_behind};
 ghost use Rattle.wt_check.specs.Texts as texts;
 
@@ -23,7 +21,7 @@ fn end_word(end: &End) -> &'static str
 }
 
 fn head(alloc: Global, chain: &RawChain) -> Result<String, AllocError>
-    ensures { IfOk result (λ text. string_bytes text ≡ codes "accepted " ++ (texts.end_word chain.now.end ++ (codes "\nsets " ++ decimal (sets.first_count chain.now.steps)))) }
+    ensures { IfOk result (λ text. string_bytes text ≡ texts.head_text chain.now) }
 {
     let word = end_word(&chain.end);
     let count = first_count(chain.steps.as_slice());

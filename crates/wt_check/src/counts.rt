@@ -1,13 +1,9 @@
 // How often each tile stands in what turns of a loop make of a tile.
-ghost use Rattle.std.specs.Prelude.{◌≡◌, ℕ, ◌+◌, ◌*◌, ◌^◌, ◌<◌, ◌≤◌, length, slice_index, MatchBool, MatchOption, MatchResult, IfOk};
+ghost use Rattle.std.specs.Prelude.{ℕ, ◌*◌, ◌^◌, ◌<◌, ◌≤◌, length, slice_index, MatchBool, MatchOption, MatchResult, IfOk};
 ghost use Rattle.wt_grid.specs.Traces.{piece_tiles};
-ghost use Rattle.wt_tile.specs.declared.tile.TileList.{TileList};
-ghost use Rattle.wt_grid.specs.Grid.{Grid};
-ghost use Rattle.wt_pattern.specs.Patterns.{IsPattern};
 ghost use Rattle.wt_chain.specs.Sets as sets;
-ghost use Rattle.wt_chain.specs.Sets.{AreLinked, last_set};
-ghost use Rattle.wt_chain.specs.Turns.{image_through, turned, single};
-ghost use Rattle.wt_check.specs.Powers.{unit, AreAdded, IsAddedTooLarge, ArePushed, IsPushedTooLarge, tiles_under, tile_back, AreCounts, AreCountsOrLarge, IsClosed};
+ghost use Rattle.wt_chain.specs.Turns.{single};
+ghost use Rattle.wt_check.specs.Powers.{AreAdded, IsAddedTooLarge, ArePushed, IsPushedTooLarge, tiles_under, tile_back, AreCounts, IsClosed, IsOneAdded, IsOneTooLarge, CountsThrough, CountsTurned};
 ghost use Rattle.wt_check.specs.Census.{IsTooLarge, AreCountsAfter, IsWholeCensus, HasLoopFault, IsCensus, HasNoFault, HasFault};
 
 use std::alloc::Global;
@@ -18,9 +14,7 @@ use wt_step::RawLink;
 
 /// Adds n to the count of a tile, or tells that it would be 2^128 or more.
 fn add(counts: &mut [u128; MAX_TILES], tile: u16, n: u128) -> bool
-    ensures { MatchBool result
-        ((u : ℕ) → u < MAX_TILES → slice_index counts.new u ≡ slice_index counts.old u + n * unit u tile)
-        ((tile < MAX_TILES) × (2 ^ 128 ≤ slice_index counts.old tile + n)) }
+    ensures { MatchBool result (IsOneAdded counts.old counts.new n tile) (IsOneTooLarge counts.old n tile) }
 {
     let at = usize::from(tile);
     if at >= 256 {
@@ -50,7 +44,7 @@ fn spread(counts: &mut [u128; MAX_TILES], image: Image, n: u128) -> bool
 fn push(link: &RawLink, counts: &[u128; MAX_TILES]) -> Option<[u128; MAX_TILES]>
     ensures { MatchOption result
         (IsPushedTooLarge (tiles_under link.now) counts.now)
-        (λ next. ArePushed (tiles_under link.now) counts.now next) }
+        (ArePushed (tiles_under link.now) counts.now) }
 {
     let mut next = [0u128; MAX_TILES];
     for t in 0..256u16 {
@@ -66,7 +60,7 @@ fn back(renaming: &[u16], counts: &[u128; MAX_TILES]) -> Option<[u128; MAX_TILES
     requires { length renaming.now ≤ MAX_TILES }
     ensures { MatchOption result
         (IsPushedTooLarge (tile_back renaming.now) counts.now)
-        (λ next. ArePushed (tile_back renaming.now) counts.now next) }
+        (ArePushed (tile_back renaming.now) counts.now) }
 {
     let origins = origins(renaming);
     let mut next = [0u128; MAX_TILES];
@@ -80,8 +74,7 @@ fn back(renaming: &[u16], counts: &[u128; MAX_TILES]) -> Option<[u128; MAX_TILES
 
 /// The same through several steps, the last step first.
 fn push_through(links: &[RawLink], counts: &[u128; MAX_TILES]) -> Option<[u128; MAX_TILES]>
-    ensures { (set : TileList) (q : Grid) → AreLinked set links.now → IsPattern (last_set set links.now).tiles q → AreCounts counts.now q
-        → AreCountsOrLarge result (image_through links.now q) }
+    ensures { CountsThrough links.now counts.now result }
 {
     let [link, after @ ..] = links else {
         return Some(*counts);
@@ -99,8 +92,7 @@ fn turn_counts(
     counts: &[u128; MAX_TILES],
 ) -> Option<[u128; MAX_TILES]>
     requires { length renaming.now ≤ MAX_TILES }
-    ensures { (closed : IsClosed links.now renaming.now) (g : Grid) → IsPattern closed.set.tiles g → AreCounts counts.now g
-        → AreCountsOrLarge result (turned links.now renaming.now g) }
+    ensures { CountsTurned links.now renaming.now counts.now result }
 {
     match back(renaming, counts) {
         None => None,
@@ -134,7 +126,7 @@ fn counts_after(
     requires closed { IsClosed links.now renaming.now }
     requires below { tile < sets.first_count links.now }
     ensures { MatchOption result (IsTooLarge links.now renaming.now turns tile)
-        (λ counts. AreCountsAfter links.now renaming.now turns tile counts) }
+        (AreCountsAfter links.now renaming.now turns tile) }
 {
     let mut counts = one_tile(tile);
     for turn in 0..turns {
@@ -158,7 +150,7 @@ fn loop_census(
     requires closed { IsClosed links.now renaming.now }
     ensures { MatchResult result
         (λ counts. IsWholeCensus links.now renaming.now turns tile counts.items)
-        (λ e. HasLoopFault links.now renaming.now turns tile e) }
+        (HasLoopFault links.now renaming.now turns tile) }
 {
     let count = first_count(links);
     if usize::from(tile) >= count {
@@ -193,7 +185,7 @@ pub enum CensusFault {
 pub fn census(alloc: Global, c: &Accepted, turns: u32, tile: u16) -> Result<Vec<u128>, CensusFault>
     requires { turns ≤ 4096 }
     ensures counts { IfOk result (λ counts. IsCensus c.now.steps c.now.end turns tile counts.items) }
-    ensures fault { MatchResult result (λ counts. HasNoFault c.now.steps c.now.end turns tile) (λ e. HasFault c.now.steps c.now.end turns tile e) }
+    ensures fault { MatchResult result (λ counts. HasNoFault c.now.steps c.now.end turns tile) (HasFault c.now.steps c.now.end turns tile) }
 {
     let chain = c.raw();
     let End::Loop {

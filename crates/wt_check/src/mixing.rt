@@ -6,7 +6,7 @@ ghost use Rattle.wt_chain.specs.declared.raw.End.TheVariants.{Open};
 ghost use Rattle.wt_chain.specs.Growth as growth;
 ghost use Rattle.wt_check.specs.Powers.{power, count, IsClosed};
 ghost use Rattle.wt_mask.specs.Masks as mask_words;
-ghost use Rattle.wt_check.specs.Masks.{image_bit, AreMasks, AreCarriedMasks};
+ghost use Rattle.wt_check.specs.Masks.{image_bit, AreMasks, AreCarriedMasks, AreFull, HasGap};
 ghost use Rattle.wt_check.specs.Primitive as spec;
 ghost use Rattle.wt_check.specs.Primitive.{IsLoopPower, IsPower, ArePowers};
 
@@ -108,9 +108,7 @@ fn is_full(mask: &[u64; 4], n: usize) -> bool
 /// Whether the masks of n tiles all have the first n bits.
 fn are_full(rows: &[[u64; 4]; MAX_TILES], n: usize) -> bool
     requires { n ≤ MAX_TILES }
-    ensures { MatchBool result
-        ((t u : ℕ) → t < n → u < n → mask_bit (mask_words.mask_at rows.now t) u ≡ 1)
-        ((t : ℕ) × (u : ℕ) × (t < n) × (u < n) × (mask_bit (mask_words.mask_at rows.now t) u ≡ 1 → ⊥)) }
+    ensures { MatchBool result (AreFull n rows.now) (HasGap n rows.now) }
 {
     for t in 0..n {
         if !is_full(&rows[t], n) {
