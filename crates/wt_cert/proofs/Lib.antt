@@ -17,3 +17,4 @@ pub mod TreeLines
 pub mod Written
 pub mod Blocks
 pub mod WithinLimits
+pub mod Heads

@@ -1,15 +1,14 @@
 -- Lines that go on where they were to end.
-use Rattle.std.proofs.Common.{◌≡◌, ℕ, List, [], ◌∷◌, Some, Result, Ok, Err, true, codes, refl}
+use Rattle.std.proofs.Common.{◌≡◌, ℕ, List, Some, Result, Ok, true, codes}
 use Rattle.wt_line.proofs.Ended.{goes_on_is_wrong}
 use Rattle.wt_grid.specs.declared.axis.Axis.{Axis}
 use Rattle.std.specs.Fmt.{decimal}
 use Rattle.wt_line.specs.declared.faults.What.{What}
 use Rattle.wt_line.specs.declared.faults.LineFault.{LineFault}
-use Rattle.wt_line.specs.declared.faults.LineFault.TheVariants as line
 use Rattle.wt_line.specs.Faults.{IsWrong, LineFails}
 use Rattle.wt_chain.specs.declared.raw.Version.{Version}
 use Rattle.wt_refute.specs.Refutation.{Refutation}
-use Rattle.wt_text.specs.Readers.{after, pair, judged, value_behind, both, whole}
+use Rattle.wt_text.specs.Readers.{after, pair, value_behind, both, whole}
 use Rattle.wt_line.specs.Limits.{small}
 use Rattle.wt_line.specs.Directions.{axis}
 use Rattle.wt_cert.specs.LineForms.{Head, kind_of_step, head_form, may_cite, radius_in, refuted_form, lost_form}

@@ -1,5 +1,5 @@
 -- A good chain within the limits has a text.
-use Rattle.std.proofs.Common.{arith, ◌≡◌, ℕ, zero, suc, ◌+◌, ◌<◌, ◌≤◌, Bool, true, false, ◌&&◌, nat_lt, nat_le, nat_eq, List, [], ◌∷◌, length, drop, slice_index, slice_index_or, refl, sym, ap, ◌∙◌, subst}
+use Rattle.std.proofs.Common.{arith, ◌≡◌, ℕ, zero, suc, ◌+◌, ◌<◌, ◌≤◌, Bool, true, ◌&&◌, nat_lt, nat_le, nat_eq, List, [], ◌∷◌, length, drop, slice_index, refl, sym, subst}
 use Rattle.std.specs.List.{All, list_all}
 use Rattle.std.proofs.lemmas.Bool.{and_parts}
 use Rattle.std.proofs.lemmas.Bool.Decides.{nat_tests}
@@ -15,17 +15,16 @@ use Rattle.wt_text.specs.Spellings.{AllFit, FitInTurn}
 use Rattle.wt_text.specs.Readers.{left_by}
 use Rattle.wt_pattern.proofs.SetsListed.{set_listed}
 use Rattle.wt_refute.specs.declared.tree.Refuted.{Refuted}
-use Rattle.wt_refute.specs.Refutation.{Refutation, Branches, branch, cite, no_more, more, node_count, count_in, branch_count}
+use Rattle.wt_refute.specs.Refutation.{Refutation, Branches, branch, cite, no_more, more, node_count, count_in}
 use Rattle.wt_refute.specs.View.{refutation}
 use Rattle.wt_bijection.specs.Carried.{IsRenaming}
 use Rattle.wt_step.specs.declared.raw.RawStep.{RawStep}
 use Rattle.wt_step.specs.declared.raw.RawLink.{RawLink}
 use Rattle.wt_step.specs.declared.raw.RawLink.TheVariants.{Marker, Restrict}
 use Rattle.wt_step.specs.Words.{entry_fits, image_fits}
-use Rattle.wt_step.specs.Faults.{markers_fit, allowed_fit, refuted_fit, images_fit}
 use Rattle.wt_refute.specs.Entries.{entries_follow}
 use Rattle.wt_step.specs.Links.{fine_of, coarse_of}
-use Rattle.wt_step.specs.Good.{IsGoodStep, IsGoodLink}
+use Rattle.wt_step.specs.Good.{IsGoodStep}
 use Rattle.wt_step.specs.Limits.{IsSlim, AreSlim, IsSlimEntry, IsSlimStep}
 use Rattle.wt_chain.specs.declared.raw.Version.{Version}
 use Rattle.wt_chain.specs.declared.raw.Version.TheVariants as versions
@@ -33,12 +32,12 @@ use Rattle.wt_chain.specs.declared.raw.End.{End}
 use Rattle.wt_chain.specs.declared.raw.End.TheVariants.{Open, Loop}
 use Rattle.wt_chain.specs.declared.raw.RawChain.{RawChain}
 use Rattle.wt_chain.specs.Sets.{last_set, first_count, BeginsWith}
-use Rattle.wt_chain.specs.Limits.{nodes_with, nodes_with_lost, nodes_through, IsSmallEnd, AreSlimSteps, IsWithinLimits}
+use Rattle.wt_chain.specs.Limits.{nodes_with, nodes_through, IsSmallEnd, AreSlimSteps, IsWithinLimits}
 use Rattle.wt_chain.specs.Good.{AreGoodSteps, IsGoodRun, IsGoodLoop, IsGoodEnd, IsGoodChain}
 use Rattle.wt_cert.specs.LineForms.{may_cite}
 use Rattle.wt_cert.specs.Parts.{with_refuted, with_link}
 use Rattle.wt_cert.specs.Trees.{IsWritableTree, AreWritableBranches}
-use Rattle.wt_cert.specs.Fits.{IsSmall, AreWritableTiles, AreWritableNumbers, IsWritablePair, AreWritablePairs, IsWritableImage, AreWritableImages, IsWritableRadius, IsWritableRefutation, AreWritableRefutations, IsWritableMarker, IsWritableLink, IsWritableEnd, IsWritable}
+use Rattle.wt_cert.specs.Fits.{IsSmall, AreWritableTiles, AreWritableNumbers, IsWritablePair, IsWritableImage, IsWritableRadius, IsWritableRefutation, IsWritableMarker, IsWritableLink, IsWritableEnd, IsWritable}
 
 -- ---- trees
 

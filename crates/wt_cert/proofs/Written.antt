@@ -1,18 +1,13 @@
 -- Lines and tokens that are written one after the other.
-use Rattle.std.proofs.Common.{rules, arith, ◌≡◌, ℕ, zero, suc, ◌+◌, Bool, true, false, List, [], ◌∷◌, ◌++◌, ◌<◌, if◌then◌else◌, length, get_or, map, drop, refl, sym, ap, ◌∙◌, append_assoc}
-use Rattle.std.specs.List.{flat_map}
+use Rattle.std.proofs.Common.{◌≡◌, ℕ, suc, ◌+◌, Bool, true, false, List, [], ◌∷◌, ◌++◌, ◌<◌, if◌then◌else◌, length, get_or, map, drop, refl, sym, ap, ◌∙◌, append_assoc}
 use Rattle.wt_grid.specs.declared.axis.Axis.{Axis}
 use Rattle.std.proofs.lemmas.List.{append-nil}
 use Rattle.std.specs.Fmt.{decimal}
-use Rattle.wt_refute.specs.declared.tree.Tree as tree
-use Rattle.wt_refute.specs.declared.tree.Tree.TheVariants.{rolls-Branch, rolls-Cite}
-use Rattle.wt_refute.specs.declared.tree.Tree.TheOpen.{Tree-F}
 use Rattle.wt_refute.specs.declared.tree.Child.{Child}
-use Rattle.wt_refute.specs.Refutation.{Refutation, Branches, branch, cite, no_more, more, branch_count}
-use Rattle.wt_refute.specs.View.{refutation, branches_of, child_view, children_view, tree_step, child_step}
+use Rattle.wt_refute.specs.Refutation.{Refutation, Branches, branch, cite, branch_count}
+use Rattle.wt_refute.specs.View.{refutation, children_view}
 use Rattle.wt_refute.proofs.Children.{view_more}
 use Rattle.wt_cert.specs.Trees.{tree_spelling, branches_spelling, axis_word}
-use Rattle.wt_text.specs.Words.{spaced}
 use Rattle.wt_text.specs.Lines.{Line, line_of, bytes_of}
 use Rattle.wt_write.specs.Behind.{behind_spaces}
 use Rattle.wt_write.proofs.Spaces.{spaced_first, behind_both}

@@ -1,8 +1,7 @@
 -- Scaffolding: how values of the code stand for what is read.
-use Rattle.std.specs.Prelude.{ℕ, List, [], ◌∷◌, ◌++◌, Result, Ok, Err}
+use Rattle.std.specs.Prelude.{ℕ, List, [], ◌∷◌, Result}
 use Rattle.wt_grid.specs.declared.axis.Axis.{Axis}
-use Rattle.wt_line.specs.declared.places.Place.{Place}
-use Rattle.wt_text.specs.Lines.{Line, lines}
+use Rattle.wt_text.specs.Lines.{Line}
 use Rattle.wt_refute.specs.Refutation.{Refutation, Branches, more}
 use Rattle.wt_refute.specs.View.{refutation}
 use Rattle.wt_refute.specs.declared.tree.Refuted.{Refuted}

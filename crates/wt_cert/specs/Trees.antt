@@ -91,6 +91,21 @@ ending_in None = Err wrong
 ending_in (Some (children n)) = if nat_le n MAX_TILES then Ok (children n) else Err (past Tiles)
 ending_in (Some (cites axis)) = Ok (cites axis)
 
+-- the number of a tile, and the tokens behind it
+abbrev pub tile_left : List (List ℕ) → Result (ℕ × List (List ℕ)) (LineFault What)
+tile_left [] = Err wrong
+tile_left (tile ∷ ts) = limited 65535 Number (number tile) then λ t. Ok (t, ts)
+
+-- the cell of a node, where n nodes came before, and the tokens behind it, of which there is one
+abbrev pub cell_left : ℕ → List (List ℕ) → Result (ℕ × List (List ℕ)) (LineFault What)
+cell_left nodes (cell ∷ count ∷ ts) = cell_in nodes cell then λ c. Ok (c, count ∷ ts)
+cell_left nodes ts = Err wrong
+
+-- what stands after a cell, and the tokens behind it
+abbrev pub ending_left : Bool → List (List ℕ) → Result (Ending × List (List ℕ)) (LineFault What)
+ending_left citing [] = Err wrong
+ending_left citing (count ∷ ts) = ending_in (ending citing count) then λ e. Ok (e, ts)
+
 -- n branches
 abbrev pub branches_in : (ℕ → List (List ℕ) → Result (Refutation × List (List ℕ)) (LineFault What)) → ℕ → ℕ → List (List ℕ) → Result (Branches × List (List ℕ)) (LineFault What)
 branches_in read zero nodes ts = Ok (no_more, ts)

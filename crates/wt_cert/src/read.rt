@@ -17,6 +17,7 @@ mod rows;
 mod trees;
 mod words;
 
+use crate::limits::MAX_NODES;
 use crate::read::heads::{EndLine, Head, end_row, head_row, steps_row, version_row};
 use crate::read::lists::{
     allowed_at, alone_at, images_at, lost_list, numbers_at, refuted_list, tile_list_at,
@@ -74,10 +75,10 @@ fn marker_at<'a>(
     head: (Axis, Side, u8),
     place: Place<'a>,
 ) -> Result<(RawLink, u32, Place<'a>), TextFault>
-    requires { nodes ≤ 1048576 }
+    requires { nodes ≤ MAX_NODES }
     ensures read { ReadsText (λ x. (x.0, lines_left x.2)) result (marker_part version nodes (head.0, (head.1, head.2)) (lines_left place.entry)) }
     ensures nodes { IfOk result (λ x. x.1 ≡ with_link nodes x.0) }
-    ensures room { IfOk result (λ x. x.1 ≤ 1048576) }
+    ensures room { IfOk result (λ x. x.1 ≤ MAX_NODES) }
 {
     let (axis, side, radius) = head;
     let (fine, place) = tile_list_at(alloc, "fine", place)?;
@@ -110,10 +111,10 @@ fn restrict_at<'a>(
     radius: u8,
     place: Place<'a>,
 ) -> Result<(RawLink, u32, Place<'a>), TextFault>
-    requires { nodes ≤ 1048576 }
+    requires { nodes ≤ MAX_NODES }
     ensures read { ReadsText (λ x. (x.0, lines_left x.2)) result (restrict_part nodes radius (lines_left place.entry)) }
     ensures nodes { IfOk result (λ x. x.1 ≡ with_link nodes x.0) }
-    ensures room { IfOk result (λ x. x.1 ≤ 1048576) }
+    ensures room { IfOk result (λ x. x.1 ≤ MAX_NODES) }
 {
     let (fine, place) = tile_list_at(alloc, "fine", place)?;
     let (coarse, place) = tile_list_at(alloc, "coarse", place)?;
@@ -138,10 +139,10 @@ fn link_at<'a>(
     nodes: u32,
     place: Place<'a>,
 ) -> Result<(RawLink, u32, Place<'a>), TextFault>
-    requires { nodes ≤ 1048576 }
+    requires { nodes ≤ MAX_NODES }
     ensures read { ReadsText (λ x. (x.0, lines_left x.2)) result (spec.link_part version k nodes (lines_left place.entry)) }
     ensures nodes { IfOk result (λ x. x.1 ≡ with_link nodes x.0) }
-    ensures room { IfOk result (λ x. x.1 ≤ 1048576) }
+    ensures room { IfOk result (λ x. x.1 ≤ MAX_NODES) }
 {
     let (head, place) = head_at(version, k, place)?;
     match head {

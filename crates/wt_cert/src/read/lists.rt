@@ -8,6 +8,7 @@ ghost use Rattle.wt_cert.specs.Parts.{tiles_part, numbers_part, allowed_part, wi
 ghost use Rattle.wt_cert.specs.Parts as spec;
 ghost use Rattle.wt_line.specs.Left.{lines_left, ReadsPlace};
 
+use crate::limits::MAX_NODES;
 use crate::read::heads::{allowed_row, alone_row, count_row};
 use crate::read::numbers::numbers_row;
 use crate::read::rows::{image_row, lost_row, pair_row, refuted_row};
@@ -87,7 +88,7 @@ fn refuted_at<'a>(
 ) -> Result<(Refuted, u32, Place<'a>), TextFault>
     ensures read { ReadsText (λ x. (x.0, lines_left x.2)) result (spec.refuted_row version radius nodes (lines_left place.entry)) }
     ensures nodes { IfOk result (λ x. x.1 ≡ with_refuted nodes x.0) }
-    ensures room { IfOk result (λ x. x.1 ≤ 1048576) }
+    ensures room { IfOk result (λ x. x.1 ≤ MAX_NODES) }
 {
     let (line, next) = next_line(place)?;
     let (refuted, nodes) = placed(
@@ -105,7 +106,7 @@ fn lost_at<'a>(
 ) -> Result<(Lost, u32, Place<'a>), TextFault>
     ensures read { ReadsText (λ x. (x.0, lines_left x.2)) result (spec.lost_row nodes (lines_left place.entry)) }
     ensures nodes { IfOk result (λ x. x.1 ≡ with_lost nodes x.0) }
-    ensures room { IfOk result (λ x. x.1 ≤ 1048576) }
+    ensures room { IfOk result (λ x. x.1 ≤ MAX_NODES) }
 {
     let (line, next) = next_line(place)?;
     let (lost, nodes) = placed(lost_row(alloc, nodes, line), place.number)?;
@@ -205,10 +206,10 @@ fn refuted_rows<'a>(
     count: u32,
     place: Place<'a>,
 ) -> Result<(Vec<Refuted>, u32, Place<'a>), TextFault>
-    requires { nodes ≤ 1048576 }
+    requires { nodes ≤ MAX_NODES }
     ensures read { ReadsText (λ x. (x.0.items, lines_left x.2)) result (many_parts (spec.refuted_row version radius) with_refuted nodes count (lines_left place.entry)) }
     ensures nodes { IfOk result (λ x. x.1 ≡ left_by with_refuted nodes x.0.items) }
-    ensures room { IfOk result (λ x. x.1 ≤ 1048576) }
+    ensures room { IfOk result (λ x. x.1 ≤ MAX_NODES) }
 {
     let mut list = Vec::new(alloc);
     let mut total = nodes;
@@ -231,10 +232,10 @@ pub fn refuted_list<'a>(
     nodes: u32,
     place: Place<'a>,
 ) -> Result<(Seq<Refuted>, u32, Place<'a>), TextFault>
-    requires { nodes ≤ 1048576 }
+    requires { nodes ≤ MAX_NODES }
     ensures read { ReadsText (λ x. (x.0, lines_left x.2)) result (refuted_part version radius nodes (lines_left place.entry)) }
     ensures nodes { IfOk result (λ x. x.1 ≡ left_by with_refuted nodes x.0) }
-    ensures room { IfOk result (λ x. x.1 ≤ 1048576) }
+    ensures room { IfOk result (λ x. x.1 ≤ MAX_NODES) }
 {
     let (count, place) = count_at("refuted", MAX_REFUTED, What::Pairs, place)?;
     let (list, nodes, place) = refuted_rows(alloc, version, radius, nodes, count, place)?;
@@ -247,10 +248,10 @@ fn lost_rows<'a>(
     count: u32,
     place: Place<'a>,
 ) -> Result<(Vec<Lost>, u32, Place<'a>), TextFault>
-    requires { nodes ≤ 1048576 }
+    requires { nodes ≤ MAX_NODES }
     ensures read { ReadsText (λ x. (x.0.items, lines_left x.2)) result (many_parts spec.lost_row with_lost nodes count (lines_left place.entry)) }
     ensures nodes { IfOk result (λ x. x.1 ≡ left_by with_lost nodes x.0.items) }
-    ensures room { IfOk result (λ x. x.1 ≤ 1048576) }
+    ensures room { IfOk result (λ x. x.1 ≤ MAX_NODES) }
 {
     let mut list = Vec::new(alloc);
     let mut total = nodes;
@@ -271,10 +272,10 @@ pub fn lost_list<'a>(
     nodes: u32,
     place: Place<'a>,
 ) -> Result<(Seq<Lost>, u32, Place<'a>), TextFault>
-    requires { nodes ≤ 1048576 }
+    requires { nodes ≤ MAX_NODES }
     ensures read { ReadsText (λ x. (x.0, lines_left x.2)) result (lost_part nodes (lines_left place.entry)) }
     ensures nodes { IfOk result (λ x. x.1 ≡ left_by with_lost nodes x.0) }
-    ensures room { IfOk result (λ x. x.1 ≤ 1048576) }
+    ensures room { IfOk result (λ x. x.1 ≤ MAX_NODES) }
 {
     let (count, place) = count_at("lost", MAX_TILES, What::Tiles, place)?;
     let (list, nodes, place) = lost_rows(alloc, nodes, count, place)?;

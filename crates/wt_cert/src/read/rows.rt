@@ -12,6 +12,7 @@ ghost use Rattle.wt_cert.specs.Seen.{refuted_view, lost_view};
 ghost use Rattle.wt_cert.specs.Trees as trees;
 ghost use Rattle.wt_line.specs.Left.{tokens_left, ReadsRest};
 
+use crate::limits::{MAX_LEVELS, MAX_NODES};
 use crate::read::forms::tree_form;
 use crate::read::trees::tree_within;
 use std::alloc::Global;
@@ -20,8 +21,6 @@ use wt_line::{LineFault, Rest, What, axis, line_end, radius, small_number};
 use wt_morphism::Image;
 use wt_refute::{Refuted, Tree};
 use wt_step::Lost;
-
-const MAX_LEVELS: u8 = 90;
 
 /// A tree with the nodes so far, its own included.
 #[derive(Drop)]
@@ -81,8 +80,9 @@ fn radius_in(
     }
 }
 
-/// A tree to the end of the line, where n nodes came before: its form first, and then its limits.
-#[tactic(auto, unfolding(crate::specs::Trees::tree_to_end))]
+/// A tree to the end of the line, where n nodes came before. Its form comes before its limits, so where it passes one
+/// the form is asked too.
+#[tactic(auto, using(crate::proofs::TreeLines::tree_ends, crate::proofs::TreeLines::tree_goes_on, crate::proofs::TreeLines::no_tree, crate::proofs::TreeLines::no_form))]
 fn tree_to_end(
     alloc: Global,
     citing: bool,
@@ -91,22 +91,27 @@ fn tree_to_end(
 ) -> Result<(Result<Grown, What>, Rest<'_>), LineFault>
     ensures read { ReadsTokens (λ x. (mapped (λ g. refutation g.tree) x.0, tokens_left x.1)) result (trees.tree_to_end citing nodes (tokens_left rest.entry)) }
     ensures nodes { IfOk result (λ x. IfOk x.0 (λ g. g.nodes ≡ nodes + node_count (refutation g.tree))) }
-    ensures room { IfOk result (λ x. IfOk x.0 (λ g. g.nodes ≤ 1048576)) }
+    ensures room { IfOk result (λ x. IfOk x.0 (λ g. g.nodes ≤ MAX_NODES)) }
 {
-    if !tree_form(citing, rest) {
-        return Err(LineFault::Wrong);
-    }
     match tree_within(alloc, citing, MAX_LEVELS, nodes, rest) {
-        Ok((tree, nodes, rest)) => Ok((Ok(Grown { tree, nodes }), rest)),
+        Ok((tree, nodes, after)) => {
+            if after.more {
+                return Err(LineFault::Wrong);
+            }
+            Ok((Ok(Grown { tree, nodes }), after))
+        }
         Err(LineFault::Wrong) => Err(LineFault::Wrong),
         Err(LineFault::OutOfMemory) => Err(LineFault::OutOfMemory),
-        Err(LineFault::Past(what)) => Ok((
-            Err(what),
-            Rest {
+        Err(LineFault::Past(what)) => {
+            if !tree_form(citing, rest) {
+                return Err(LineFault::Wrong);
+            }
+            let none = Rest {
                 line: rest.line,
                 more: false,
-            },
-        )),
+            };
+            Ok((Err(what), none))
+        }
     }
 }
 
@@ -121,7 +126,7 @@ pub fn refuted_row(
 ) -> Result<(Refuted, u32), LineFault>
     ensures read { ReadsLine (λ x. refuted_view x.0) result (refuted_form version radius nodes (tokens line.now)) }
     ensures nodes { IfOk result (λ x. x.1 ≡ with_refuted nodes x.0) }
-    ensures room { IfOk result (λ x. x.1 ≤ 1048576) }
+    ensures room { IfOk result (λ x. x.1 ≤ MAX_NODES) }
 {
     let (axis, rest) = axis(Rest::new(line))?;
     let (a, rest) = small_number(rest)?;
@@ -148,7 +153,7 @@ pub fn refuted_row(
 pub fn lost_row(alloc: Global, nodes: u32, line: &[u8]) -> Result<(Lost, u32), LineFault>
     ensures read { ReadsLine (λ x. lost_view x.0) result (lost_form nodes (tokens line.now)) }
     ensures nodes { IfOk result (λ x. x.1 ≡ with_lost nodes x.0) }
-    ensures room { IfOk result (λ x. x.1 ≤ 1048576) }
+    ensures room { IfOk result (λ x. x.1 ≤ MAX_NODES) }
 {
     let (tile, rest) = small_number(Rest::new(line))?;
     let (grown, rest) = tree_to_end(alloc, true, nodes, rest)?;

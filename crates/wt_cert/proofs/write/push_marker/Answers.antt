@@ -1,7 +1,6 @@
-use Rattle.std.proofs.Common.{◌≡◌, ◌++◌, ℕ, List, length, codes}
+use Rattle.std.proofs.Common.{◌++◌, ℕ, List, codes}
 use Rattle.wt_grid.specs.declared.image.Image.{Image}
 use Rattle.wt_refute.specs.declared.tree.Refuted.{Refuted}
-use Rattle.wt_step.specs.declared.raw.Lost.{Lost}
 use Rattle.wt_cert.specs.Spelling.{line, numbers_tokens, tiles_lines, allowed_lines, refuted_lines, images_lines, marker_head, marker_lines}
 use Rattle.wt_cert.proofs.Blocks.{written, as_lines}
 use Rattle.wt_cert.proofs.write.push_marker.Goals as goal

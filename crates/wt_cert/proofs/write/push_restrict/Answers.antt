@@ -1,6 +1,4 @@
-use Rattle.std.proofs.Common.{◌≡◌, ◌++◌, ℕ, List, length, codes}
-use Rattle.wt_grid.specs.declared.image.Image.{Image}
-use Rattle.wt_refute.specs.declared.tree.Refuted.{Refuted}
+use Rattle.std.proofs.Common.{◌++◌, ℕ, List, codes}
 use Rattle.wt_step.specs.declared.raw.Lost.{Lost}
 use Rattle.wt_cert.specs.Spelling.{line, numbers_tokens, tiles_lines, lost_lines, restrict_head, restrict_lines}
 use Rattle.wt_cert.proofs.Blocks.{written, as_lines}

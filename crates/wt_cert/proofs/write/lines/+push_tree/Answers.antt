@@ -1,8 +1,7 @@
-use Rattle.std.proofs.Common.{rules, ◌≡◌, ◌++◌, length}
+use Rattle.std.proofs.Common.{rules, ◌++◌, length}
 use Rattle.wt_refute.proofs.BranchView.{branch_view, cite_view}
 use Rattle.wt_write.specs.Behind.{behind_spaces}
-use Rattle.wt_refute.specs.Refutation.{branch, cite}
-use Rattle.wt_refute.specs.View.{refutation, children_view}
+use Rattle.wt_refute.specs.View.{refutation}
 use Rattle.wt_cert.specs.Trees.{tree_spelling}
 use Rattle.wt_cert.proofs.Written.{cite_written, branch_begins, child_written}
 use Rattle.wt_cert.proofs.write.lines.+push_tree.Goals as goal
