@@ -42,6 +42,10 @@ frame_fits axis w = window_fits w && list_all is_small_half (zone axis w true) &
 abbrev pub zones_fault : Axis → Rotation → Option InduceFault
 zones_fault axis r = if is_half axis r then Some fault.Half else if frame_fits axis (frame_on axis r) then None else Some fault.TooLarge
 
+-- the half-planes of both zones of a window are within limits
+abbrev pub zones_fit : Axis → Frame → Bool
+zones_fit axis w = list_all is_small_half (zone axis w true) && list_all is_small_half (zone axis w false)
+
 -- a region that is kept has too many half-planes
 abbrev pub planes_fault : Draft → Option InduceFault
 planes_fault c = if is_kept c && nat_lt MAX_PLANES (length (reduced [] c.planes)) then Some fault.TooManyPlanes else None

@@ -55,13 +55,17 @@ drafts axis p =
     let w = frame_on axis p.torus in
     singles (zone axis w w.single_below) p.regions ++ doubles axis (move_of axis p.torus) (zone axis w (not w.single_below)) p.regions
 
--- those that are kept, reduced
+-- a draft without half-planes that others imply
 abbrev pub reduced_draft : Draft → Draft
 reduced_draft c = record { image = c.image; planes = reduced [] c.planes }
 
+-- the drafts that are kept, reduced
+abbrev pub kept_drafts : List Draft → List Draft
+kept_drafts ds = those reduced_draft is_kept ds
+
 -- the induced regions that are left
 abbrev pub kept : Axis → Partition → List Draft
-kept axis p = those reduced_draft is_kept (drafts axis p)
+kept axis p = kept_drafts (drafts axis p)
 
 -- what the labels of drafts stand for, each once, in order
 abbrev pub images_of : List Draft → List Image

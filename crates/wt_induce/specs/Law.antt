@@ -1,18 +1,19 @@
 -- What the coding law says: windows, blocks and codes along an axis.
-use Rattle.std.specs.Prelude.{◌≡◌, ℕ, None, ◌*ℤ◌, Bool, true, false, ◌&&◌, not}
+use Rattle.std.specs.Prelude.{◌≡◌, ◌<◌, ◌≤◌, ℕ, None, ◌*ℤ◌, Bool, true, false, ◌&&◌, not}
 use Rattle.wt_grid.specs.declared.axis.Axis.TheVariants.{One, Two}
 use Rattle.wt_grid.specs.declared.axis.Axis.{Axis}
 use Rattle.wt_golden.specs.Whole.{Whole, opposite, is_positive}
 use Rattle.wt_golden.specs.Fractions.{Fraction, top}
-use Rattle.wt_plane.specs.HalfPlanes.{Spot, x_of, y_of}
+use Rattle.wt_plane.specs.HalfPlanes.{Spot, IsSpot, x_of, y_of}
 use Rattle.wt_grid.specs.Grid.{Grid, grid_of, along, across}
 use Rattle.wt_morphism.specs.Images.{image, uneven}
-use Rattle.wt_induce.specs.Induced.{morphism}
+use Rattle.wt_induce.specs.Induced.{morphism, induced}
 use Rattle.wt_torus.specs.declared.partition.Partition.{Partition}
 use Rattle.wt_torus.specs.Boxes.{Rotation, length_of, move_of, is_below}
 use Rattle.wt_torus.specs.Rotation.{window, returns}
 use Rattle.wt_torus.specs.Letters.{letter, number_in}
 use Rattle.wt_torus.specs.Codes.{spread, reached, IsCode}
+use Rattle.wt_torus.specs.Sound.{IsSound}
 use Rattle.wt_induce.specs.Zones.{twice, frame_on}
 
 -- twice the move is the length
@@ -60,3 +61,25 @@ pub record IsCodedByBlocks (axis : Axis) (p : Partition) (z : Spot) (q : Grid) :
   pub code : IsCode p z (code_along axis p z (block_lines axis p.torus z (along axis q)) (across axis q))
   pub even : uneven (morphism axis p) q ≡ None
   pub image : code_along axis p z (block_lines axis p.torus z (along axis q)) (across axis q) ≡ image (morphism axis p) q
+
+-- a sound partition whose move along the axis isn't half of the side, and a point of the window
+pub record HasReturns (axis : Axis) (p : Partition) (z : Spot) : Type 0 where
+  pub sound : IsSound p
+  pub apart : is_half axis p.torus ≡ false
+  pub spot : IsSpot z
+  pub inside : IsInWindow axis p.torus z
+
+-- the point has returns and the code g, and n blocks, one or more, end before the last line of g
+pub record HasBlocks (axis : Axis) (p : Partition) (z : Spot) (n : ℕ) (g : Grid) : Type 0 where
+  pub returns : HasReturns axis p z
+  pub code : IsCode p z g
+  pub some : 1 ≤ n
+  pub before : block_lines axis p.torus z n < along axis g
+
+-- q is the code of a point under the induced partition
+abbrev pub IsInducedCode : Axis → Partition → Spot → Grid → Type 0
+IsInducedCode axis p z q = IsCode (induced axis p) z q
+
+-- the letters of n blocks, in as many lines across the axis as g has
+abbrev pub block_code : Axis → Partition → Spot → ℕ → Grid → Grid
+block_code axis p z n g = code_along axis (induced axis p) z n (across axis g)

@@ -1,13 +1,13 @@
 //! Regions moved back along an axis, and what is cut by them after two turns.
-ghost use Rattle.std.specs.Prelude.{◌≡◌, ◌⊎◌, ◌++◌, true, false, map, None, Some, IfOk, OnOk, MatchResult};
+ghost use Rattle.std.specs.Prelude.{◌≡◌, ◌++◌, map, None, Some, IfOk, OnOk};
 ghost use Rattle.std.specs.List.{list_all, flat_map};
 ghost use Rattle.wt_grid.specs.Order.{first_in};
 ghost use Rattle.wt_plane.specs.HalfPlanes.{reduced_half};
-ghost use Rattle.wt_torus.specs.Letters.{those};
 ghost use Rattle.wt_induce.specs.Faults.{is_small_half};
-ghost use Rattle.wt_induce.specs.Induced.{reduced_draft, is_kept, some_clash};
+ghost use Rattle.wt_induce.specs.Induced.{some_clash, kept_drafts};
 ghost use Rattle.wt_induce.specs.Zones.{moved_along};
 ghost use Rattle.wt_induce.specs.Backs.{moved_within, back_of, back_drafts, back_fault, region_drafts, region_pairs_fault};
+ghost use Rattle.wt_grid.specs.Answers.{FailsByOr, GivesWhere};
 
 use crate::drafts::{Draft, joined, keep};
 use crate::zones::zero;
@@ -31,9 +31,7 @@ pub(crate) struct Back {
 /// The half-plane that holds where this one holds after a move along the axis, or that a number is out of limit. Takes no
 /// memory.
 pub fn moved(axis: Axis, step: Golden, h: &HalfPlane) -> Result<HalfPlane, TooLarge>
-    ensures { MatchResult result
-        (λ g. (g ≡ reduced_half (moved_along axis step h.now)) × (is_small_half (reduced_half (moved_along axis step h.now)) ≡ true))
-        (λ _. is_small_half (reduced_half (moved_along axis step h.now)) ≡ false) }
+    ensures { GivesWhere result (reduced_half (moved_along axis step h.now)) is_small_half }
 {
     match axis {
         Axis::One => h.moved(step, zero()),
@@ -95,10 +93,8 @@ fn keep_pair(
     kept: &mut Vec<Draft>,
 ) -> Result<(), InduceFault>
     requires { empty ≡ some_clash front.now }
-    ensures ok { OnOk result (kept.new.items ≡ kept.old.items ++ those reduced_draft is_kept (back_drafts front.now label q.now)) }
-    ensures fault { MatchResult result
-        (λ _. back_fault front.now label q.now ≡ None)
-        (λ e. (back_fault front.now label q.now ≡ Some e) ⊎ (e ≡ InduceFault.OutOfMemory)) }
+    ensures ok { OnOk result (kept.new.items ≡ kept.old.items ++ kept_drafts (back_drafts front.now label q.now)) }
+    ensures fault { FailsByOr result (back_fault front.now label q.now) InduceFault.OutOfMemory }
 {
     let Some(planes) = &q.planes else {
         return Err(InduceFault::TooLarge);
@@ -124,10 +120,8 @@ fn keep_pairs(
     backs: &[Back],
     kept: &mut Vec<Draft>,
 ) -> Result<(), InduceFault>
-    ensures ok { OnOk result (kept.new.items ≡ kept.old.items ++ those reduced_draft is_kept (flat_map (back_drafts front.now label) backs.now)) }
-    ensures fault { MatchResult result
-        (λ _. first_in (back_fault front.now label) backs.now ≡ None)
-        (λ e. (first_in (back_fault front.now label) backs.now ≡ Some e) ⊎ (e ≡ InduceFault.OutOfMemory)) }
+    ensures ok { OnOk result (kept.new.items ≡ kept.old.items ++ kept_drafts (flat_map (back_drafts front.now label) backs.now)) }
+    ensures fault { FailsByOr result (first_in (back_fault front.now label) backs.now) InduceFault.OutOfMemory }
 {
     let empty = meeting::some_clash(front);
     for q in backs {
@@ -143,10 +137,8 @@ fn keep_region(
     p: &Labelled,
     kept: &mut Vec<Draft>,
 ) -> Result<(), InduceFault>
-    ensures ok { OnOk result (kept.new.items ≡ kept.old.items ++ those reduced_draft is_kept (region_drafts zone.now backs.now p.now)) }
-    ensures fault { MatchResult result
-        (λ _. region_pairs_fault zone.now backs.now p.now ≡ None)
-        (λ e. (region_pairs_fault zone.now backs.now p.now ≡ Some e) ⊎ (e ≡ InduceFault.OutOfMemory)) }
+    ensures ok { OnOk result (kept.new.items ≡ kept.old.items ++ kept_drafts (region_drafts zone.now backs.now p.now)) }
+    ensures fault { FailsByOr result (region_pairs_fault zone.now backs.now p.now) InduceFault.OutOfMemory }
 {
     let front = joined(alloc, p.region.planes.as_slice(), zone)?;
     keep_pairs(alloc, &front, p.label, backs, kept)
@@ -160,10 +152,8 @@ pub(crate) fn keep_doubles(
     regions: &[Labelled],
     kept: &mut Vec<Draft>,
 ) -> Result<(), InduceFault>
-    ensures ok { OnOk result (kept.new.items ≡ kept.old.items ++ those reduced_draft is_kept (flat_map (region_drafts zone.now backs.now) regions.now)) }
-    ensures fault { MatchResult result
-        (λ _. first_in (region_pairs_fault zone.now backs.now) regions.now ≡ None)
-        (λ e. (first_in (region_pairs_fault zone.now backs.now) regions.now ≡ Some e) ⊎ (e ≡ InduceFault.OutOfMemory)) }
+    ensures ok { OnOk result (kept.new.items ≡ kept.old.items ++ kept_drafts (flat_map (region_drafts zone.now backs.now) regions.now)) }
+    ensures fault { FailsByOr result (first_in (region_pairs_fault zone.now backs.now) regions.now) InduceFault.OutOfMemory }
 {
     for p in regions {
         keep_region(alloc, zone, backs, p, kept)?;

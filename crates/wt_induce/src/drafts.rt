@@ -1,10 +1,10 @@
 //! Induced regions in the making: cut out of a region after one turn, dropped or kept.
-ghost use Rattle.std.specs.Prelude.{◌≡◌, ◌⊎◌, ◌++◌, ◌∷◌, [], None, Some, IfOk, OnOk, MatchResult};
+ghost use Rattle.std.specs.Prelude.{◌≡◌, ◌++◌, ◌∷◌, [], IfOk, OnOk, MatchResult};
 ghost use Rattle.wt_grid.specs.Order.{first_in};
-ghost use Rattle.wt_torus.specs.Letters.{those};
 ghost use Rattle.wt_induce.specs.Faults.{planes_fault};
-ghost use Rattle.wt_induce.specs.Induced.{reduced_draft, is_kept, singles};
+ghost use Rattle.wt_induce.specs.Induced.{singles, kept_drafts};
 ghost use Rattle.wt_induce.specs.Induced as induced;
+ghost use Rattle.wt_grid.specs.Answers.{FailsByOr};
 
 use crate::InduceFault;
 use crate::meeting::some_clash;
@@ -59,10 +59,8 @@ fn push(draft: Draft, kept: &mut Vec<Draft>) -> Result<(), InduceFault>
 
 /// Adds a draft to those that are kept, reduced, unless three of its half-planes clash.
 pub(crate) fn keep(draft: Draft, kept: &mut Vec<Draft>) -> Result<(), InduceFault>
-    ensures ok { OnOk result (kept.new.items ≡ kept.old.items ++ those reduced_draft is_kept (draft ∷ [])) }
-    ensures fault { MatchResult result
-        (λ _. planes_fault draft ≡ None)
-        (λ e. (planes_fault draft ≡ Some e) ⊎ (e ≡ InduceFault.OutOfMemory)) }
+    ensures ok { OnOk result (kept.new.items ≡ kept.old.items ++ kept_drafts (draft ∷ [])) }
+    ensures fault { FailsByOr result (planes_fault draft) InduceFault.OutOfMemory }
 {
     let Draft { image, planes } = draft;
     if some_clash(planes.as_slice()) {
@@ -98,10 +96,8 @@ fn keep_single(
     p: &Labelled,
     kept: &mut Vec<Draft>,
 ) -> Result<(), InduceFault>
-    ensures ok { OnOk result (kept.new.items ≡ kept.old.items ++ those reduced_draft is_kept (induced.single zone.now p.now ∷ [])) }
-    ensures fault { MatchResult result
-        (λ _. planes_fault (induced.single zone.now p.now) ≡ None)
-        (λ e. (planes_fault (induced.single zone.now p.now) ≡ Some e) ⊎ (e ≡ InduceFault.OutOfMemory)) }
+    ensures ok { OnOk result (kept.new.items ≡ kept.old.items ++ kept_drafts (induced.single zone.now p.now ∷ [])) }
+    ensures fault { FailsByOr result (planes_fault (induced.single zone.now p.now)) InduceFault.OutOfMemory }
 {
     let draft = single(alloc, zone, p)?;
     keep(draft, kept)
@@ -114,10 +110,8 @@ pub(crate) fn keep_singles(
     regions: &[Labelled],
     kept: &mut Vec<Draft>,
 ) -> Result<(), InduceFault>
-    ensures ok { OnOk result (kept.new.items ≡ kept.old.items ++ those reduced_draft is_kept (singles zone.now regions.now)) }
-    ensures fault { MatchResult result
-        (λ _. first_in planes_fault (singles zone.now regions.now) ≡ None)
-        (λ e. (first_in planes_fault (singles zone.now regions.now) ≡ Some e) ⊎ (e ≡ InduceFault.OutOfMemory)) }
+    ensures ok { OnOk result (kept.new.items ≡ kept.old.items ++ kept_drafts (singles zone.now regions.now)) }
+    ensures fault { FailsByOr result (first_in planes_fault (singles zone.now regions.now)) InduceFault.OutOfMemory }
 {
     for p in regions {
         keep_single(alloc, zone, p, kept)?;

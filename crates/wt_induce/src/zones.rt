@@ -1,5 +1,5 @@
 //! The window of an axis and its two zones.
-ghost use Rattle.std.specs.Prelude.{◌≡◌, ◌^◌, ◌&&◌, ◌≤◌, true, false, not, None, Some, MatchResult};
+ghost use Rattle.std.specs.Prelude.{◌≡◌, ◌^◌, ◌&&◌, ◌≤◌, true, false, Some, MatchResult};
 ghost use Rattle.std.specs.List.{list_all};
 ghost use Rattle.wt_golden.specs.Whole.{whole, times};
 ghost use Rattle.wt_golden.specs.Whole as whole_words;
@@ -10,11 +10,12 @@ ghost use Rattle.wt_golden.specs.Fractions as fractions;
 ghost use Rattle.wt_plane.specs.HalfPlanes.{reduced_half};
 ghost use Rattle.wt_torus.specs.Boxes as boxes;
 ghost use Rattle.wt_torus.specs.Codes.{is_within};
-ghost use Rattle.wt_induce.specs.Faults.{is_small_half, window_fits, zones_fault};
+ghost use Rattle.wt_induce.specs.Faults.{is_small_half, window_fits, zones_fault, zones_fit};
 ghost use Rattle.wt_induce.specs.Zones.{twice, low_frame, high_frame, frame_on, zero_fraction};
 ghost use Rattle.wt_induce.specs.Zones as words;
-ghost use Rattle.wt_induce.specs.Kept.{IsZones};
+ghost use Rattle.wt_induce.specs.Kept.{AreZones, IsZonesWithin};
 ghost use Rattle.wt_induce.specs.Law as law;
+ghost use Rattle.wt_grid.specs.Answers.{GivesWhere};
 
 use crate::InduceFault;
 use wt_golden::{Golden, Parts, TooLarge, Wide};
@@ -129,18 +130,14 @@ fn is_more_than_half(length: Golden, step: Golden) -> bool
 
 /// The difference of two numbers, or that it is out of limit. Takes no memory.
 pub fn difference(f: Golden, g: Golden) -> Result<Golden, TooLarge>
-    ensures { MatchResult result
-        (λ d. (d ≡ lowest (fractions.difference f g)) × (is_within (lowest (fractions.difference f g)) ≡ true))
-        (λ _. is_within (lowest (fractions.difference f g)) ≡ false) }
+    ensures { GivesWhere result (lowest (fractions.difference f g)) is_within }
 {
     f.sub(g)
 }
 
 // The window for a move of less than half of the length.
 fn frame_below(length: Golden, step: Golden) -> Result<Frame, TooLarge>
-    ensures { MatchResult result
-        (λ w. (w ≡ low_frame length step) × (window_fits (low_frame length step) ≡ true))
-        (λ _. window_fits (low_frame length step) ≡ false) }
+    ensures { GivesWhere result (low_frame length step) window_fits }
 {
     step.golden();
     let rest = difference(length, step)?;
@@ -155,9 +152,7 @@ fn frame_below(length: Golden, step: Golden) -> Result<Frame, TooLarge>
 
 // The window for a move of more than half of the length.
 fn frame_above(length: Golden, step: Golden) -> Result<Frame, TooLarge>
-    ensures { MatchResult result
-        (λ w. (w ≡ high_frame length step) × (window_fits (high_frame length step) ≡ true))
-        (λ _. window_fits (high_frame length step) ≡ false) }
+    ensures { GivesWhere result (high_frame length step) window_fits }
 {
     step.golden();
     let rest = difference(length, step)?;
@@ -171,9 +166,7 @@ fn frame_above(length: Golden, step: Golden) -> Result<Frame, TooLarge>
 }
 
 fn frame_of(length: Golden, step: Golden) -> Result<Frame, TooLarge>
-    ensures { MatchResult result
-        (λ w. (w ≡ words.frame length step) × (window_fits (words.frame length step) ≡ true))
-        (λ _. window_fits (words.frame length step) ≡ false) }
+    ensures { GivesWhere result (words.frame length step) window_fits }
 {
     if is_less_than_half(length, step) {
         frame_below(length, step)
@@ -204,9 +197,7 @@ fn opposite_top(f: Golden) -> Wide
 
 /// The half-plane of the coordinates along the axis beyond f, or that a number is out of limit. Takes no memory.
 pub fn beyond(axis: Axis, f: Golden) -> Result<HalfPlane, TooLarge>
-    ensures { MatchResult result
-        (λ h. (h ≡ reduced_half (words.beyond axis f)) × (is_small_half (reduced_half (words.beyond axis f)) ≡ true))
-        (λ _. is_small_half (reduced_half (words.beyond axis f)) ≡ false) }
+    ensures { GivesWhere result (reduced_half (words.beyond axis f)) is_small_half }
 {
     match axis {
         Axis::One => HalfPlane::of(f.bottom(), ZERO, opposite_top(f)),
@@ -216,9 +207,7 @@ pub fn beyond(axis: Axis, f: Golden) -> Result<HalfPlane, TooLarge>
 
 /// The half-plane of the coordinates along the axis beneath f, or that a number is out of limit. Takes no memory.
 pub fn beneath(axis: Axis, f: Golden) -> Result<HalfPlane, TooLarge>
-    ensures { MatchResult result
-        (λ h. (h ≡ reduced_half (words.beneath axis f)) × (is_small_half (reduced_half (words.beneath axis f)) ≡ true))
-        (λ _. is_small_half (reduced_half (words.beneath axis f)) ≡ false) }
+    ensures { GivesWhere result (reduced_half (words.beneath axis f)) is_small_half }
 {
     match axis {
         Axis::One => HalfPlane::of(f.bottom().opposite(), ZERO, f.top()),
@@ -229,9 +218,7 @@ pub fn beneath(axis: Axis, f: Golden) -> Result<HalfPlane, TooLarge>
 /// The two half-planes of the coordinates along the axis from low to high, or that a number is out of limit. Takes no
 /// memory.
 pub fn between(axis: Axis, low: Golden, high: Golden) -> Result<[HalfPlane; 2], TooLarge>
-    ensures { MatchResult result
-        (λ h. (h ≡ words.between axis low high) × (list_all is_small_half (words.between axis low high) ≡ true))
-        (λ _. list_all is_small_half (words.between axis low high) ≡ false) }
+    ensures { GivesWhere result (words.between axis low high) (list_all is_small_half) }
 {
     let first = beyond(axis, low)?;
     let last = beneath(axis, high)?;
@@ -239,9 +226,7 @@ pub fn between(axis: Axis, low: Golden, high: Golden) -> Result<[HalfPlane; 2], 
 }
 
 fn zone(axis: Axis, w: &Frame, below: bool) -> Result<[HalfPlane; 2], TooLarge>
-    ensures { MatchResult result
-        (λ h. (h ≡ words.zone axis w.now below) × (list_all is_small_half (words.zone axis w.now below) ≡ true))
-        (λ _. list_all is_small_half (words.zone axis w.now below) ≡ false) }
+    ensures { GivesWhere result (words.zone axis w.now below) (list_all is_small_half) }
 {
     if below {
         between(axis, zero(), w.bound)
@@ -251,10 +236,7 @@ fn zone(axis: Axis, w: &Frame, below: bool) -> Result<[HalfPlane; 2], TooLarge>
 }
 
 fn both_zones(axis: Axis, w: Frame) -> Result<Zones, TooLarge>
-    ensures { MatchResult result
-        (λ z. (z.frame ≡ w) × (z.single ≡ words.zone axis w w.single_below) × (z.double ≡ words.zone axis w (not w.single_below))
-        × ((list_all is_small_half (words.zone axis w true) && list_all is_small_half (words.zone axis w false)) ≡ true))
-        (λ _. (list_all is_small_half (words.zone axis w true) && list_all is_small_half (words.zone axis w false)) ≡ false) }
+    ensures { MatchResult result (AreZones axis w) (λ _. zones_fit axis w ≡ false) }
 {
     let low = zone(axis, &w, true)?;
     let high = zone(axis, &w, false)?;
@@ -284,9 +266,7 @@ pub fn is_half(axis: Axis, torus: &Torus) -> bool
 
 /// The window and the zones of an axis, or why they can't be had: `Half`, then `TooLarge`.
 pub(crate) fn zones_on(axis: Axis, torus: &Torus) -> Result<Zones, InduceFault>
-    ensures { MatchResult result
-        (λ z. IsZones axis torus.now z × (zones_fault axis torus.now ≡ None))
-        (λ e. zones_fault axis torus.now ≡ Some e) }
+    ensures { MatchResult result (IsZonesWithin axis torus.now) (λ e. zones_fault axis torus.now ≡ Some e) }
 {
     if is_half(axis, torus) {
         return Err(InduceFault::Half);
