@@ -1,7 +1,10 @@
 -- Classes of markers.
-use Rattle.std.specs.Prelude.{◌≡◌, ◌↔◌, ℕ, ◌<◌, Bool, true, false, ◌&&◌, ◌||◌, not, max, min, nat_eq, if◌then◌else◌, List, [], ◌∷◌, map, slice_index}
+use Rattle.std.specs.Prelude.{◌≡◌, ◌↔◌, ℕ, ◌<◌, Bool, true, false, ◌&&◌, ◌||◌, not, max, min, nat_eq, if◌then◌else◌, List, [], ◌∷◌, map, slice_index, slice_get, Some}
 use Rattle.std.specs.List.{range_with_len, list_any}
 use Rattle.wt_grid.specs.Order.{in_order, is_below, agree, comes_before}
+use Rattle.wt_grid.specs.Axes.{other}
+use Rattle.wt_grid.specs.declared.axis.Axis.{Axis}
+use Rattle.wt_window.specs.Surrounded.{on}
 use Rattle.wt_marker.specs.Gather.{gather, only_if, any_from, fold_from}
 
 -- a is a tile of the class
@@ -95,3 +98,11 @@ class_at g labels n t = only_if (is_kept g labels n t) (class_of labels n t)
 -- the axis.
 abbrev pub kept_classes : ℕ → (ℕ → ℕ → Bool) → (ℕ → ℕ → Bool) → List (List ℕ)
 kept_classes n f g = gather (class_at g (labels_of f n) n) 0 n
+
+-- the kept classes of n tiles for markers of an axis, where the dominoes of axis 1 and of axis 2 are these
+abbrev pub kept_on : ℕ → Axis → (ℕ → ℕ → Bool) → (ℕ → ℕ → Bool) → List (List ℕ)
+kept_on n axis one two = kept_classes n (on (other axis) one two) (on axis one two)
+
+-- the classes stand in the order of their least tiles
+abbrev pub AreByLeast : List (List ℕ) → Type 0
+AreByLeast cs = (i j : ℕ) (c d : List ℕ) → slice_get cs i ≡ Some c → slice_get cs j ≡ Some d → i < j → BeginsBelow c d

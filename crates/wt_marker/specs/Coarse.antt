@@ -1,5 +1,5 @@
 -- Coarse tiles: what each image shows on its four edges, numbered by first coming.
-use Rattle.std.specs.Prelude.{ℕ, suc, Bool, true, false, ◌&&◌, nat_eq, if◌then◌else◌, List, [], ◌∷◌, ◌++◌, length, map}
+use Rattle.std.specs.Prelude.{ℕ, suc, Bool, true, false, ◌&&◌, nat_eq, if◌then◌else◌, List, [], ◌∷◌, ◌++◌, length, map, slice_index_or, ◌≡◌}
 use Rattle.wt_grid.specs.declared.image.Image.TheVariants as image
 use Rattle.wt_grid.specs.declared.image.Image.{Image}
 use Rattle.wt_grid.specs.declared.axis.Axis.{Axis}
@@ -78,3 +78,7 @@ names_of n = map decimal (range_with_len 0 n)
 -- The coarse set of these edges. A colour's name is its number.
 abbrev pub coarse_set : List Fused → TileList
 coarse_set ts = record { tiles = number_tiles [] [] ts; names1 = names_of (length (all1 [] ts)); names2 = names_of (length (all2 [] ts)) }
+
+-- the same stands at places i and j
+abbrev pub AreSameAt : {A : Type 0} → List A → A → ℕ → ℕ → Type 0
+AreSameAt xs x i j = slice_index_or xs i x ≡ slice_index_or xs j x

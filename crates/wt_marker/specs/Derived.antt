@@ -1,5 +1,5 @@
 -- Steps derived from tables of dominoes.
-use Rattle.std.specs.Prelude.{◌≡◌, ◌⊎◌, ℕ, ◌+◌, ◌<◌, Bool, true, ◌&&◌, not, nat_eq, nat_lt, if◌then◌else◌, Option, None, Some, List, [], ◌∷◌, ◌++◌, length, map, option_map, Result, MatchResult}
+use Rattle.std.specs.Prelude.{◌≡◌, ◌⊎◌, ℕ, ◌+◌, ◌<◌, Bool, true, ◌&&◌, not, nat_eq, nat_lt, if◌then◌else◌, Option, None, Some, List, [], ◌∷◌, ◌++◌, length, map, option_map, Contains, Result, MatchResult}
 use Rattle.wt_grid.specs.Axes.{other}
 use Rattle.wt_grid.specs.declared.image.Image.{Image}
 use Rattle.wt_grid.specs.declared.axis.Side.{Side}
@@ -23,8 +23,8 @@ use Rattle.wt_refute.specs.declared.limits.TheConstants.{MAX_NODES}
 use Rattle.wt_marker.specs.declared.end.DeriveEnd.{DeriveEnd}
 use Rattle.wt_marker.specs.declared.end.DeriveEnd.TheVariants.{EmptySet, TooManyTiles, Repeated, Spent, TooManyNodes, OutOfMemory}
 use Rattle.wt_marker.specs.Gather.{pairs_of}
-use Rattle.wt_window.specs.Surrounded.{Tells, on}
-use Rattle.wt_marker.specs.Classes.{is_in, IsKeptClass}
+use Rattle.wt_window.specs.Surrounded.{Tells, on, allowed}
+use Rattle.wt_marker.specs.Classes.{is_in, IsKeptClass, kept_on}
 use Rattle.wt_marker.specs.Demanded.{demanded}
 use Rattle.wt_marker.specs.Coarse.{edges_of, coarse_set, number_tiles}
 
@@ -43,6 +43,10 @@ pub record Plan : Type 0 where
 abbrev pub plan : TileList → Axis → Side → ℕ → List ℕ → (ℕ → ℕ → Bool) → (ℕ → ℕ → Bool) → Plan
 plan fine axis side radius class one two = record { fine = fine; axis = axis; side = side; radius = radius; class = class; one = one; two = two }
 
+-- the plan of these parts, where the dominoes are those of two tables
+abbrev pub plan_by : TileList → Axis → Side → ℕ → List ℕ → List (List ℕ) → List (List ℕ) → Plan
+plan_by fine axis side radius class one two = plan fine axis side radius class (allowed one) (allowed two)
+
 -- the dominoes of an axis
 abbrev pub dominoes : Plan → Axis → ℕ → ℕ → Bool
 dominoes p axis = on axis p.one p.two
@@ -56,6 +60,12 @@ tiles_of p = length p.fine.tiles
 pub record IsPlan (p : Plan) : Type 0 where
   pub tells : (axis : Axis) → Tells p.fine.tiles axis p.radius (dominoes p axis)
   pub kept : IsKeptClass (tiles_of p) (dominoes p (other p.axis)) (dominoes p p.axis) p.class
+
+-- both tables are those of the set and the radius, and the class is listed
+pub record IsListedPlan (p : Plan) : Type 0 where
+  pub tells1 : Tells p.fine.tiles One p.radius p.one
+  pub tells2 : Tells p.fine.tiles Two p.radius p.two
+  pub listed : Contains (kept_on (tiles_of p) p.axis p.one p.two) p.class
 
 -- Pairs.
 
@@ -92,6 +102,10 @@ entry_of ts radius axis q = record { axis = axis; a = q.0; b = q.1; radius = rad
 abbrev pub entries : List Tile → ℕ → Axis → (ℕ → ℕ → Bool) → List Refuted
 entries ts radius axis f = map (entry_of ts radius axis) (refuted_pairs ts axis f)
 
+-- the refutations of both axes, those of axis 1 first
+abbrev pub all_entries : List Tile → ℕ → (ℕ → ℕ → Bool) → (ℕ → ℕ → Bool) → List Refuted
+all_entries ts radius one two = entries ts radius One one ++ entries ts radius Two two
+
 -- the pair, where its tree has more nodes than the budget
 abbrev pub spent_at : List Tile → ℕ → ℕ → Axis → ℕ × ℕ → Option DeriveEnd
 spent_at ts radius budget axis q = if nat_lt budget (node_count (tree_at ts radius axis q)) then Some (Spent axis q.0 q.1) else None
@@ -108,6 +122,10 @@ nodes_of ts radius axis (q ∷ qs) = node_count (tree_at ts radius axis q) + nod
 -- the nodes of all trees of an axis, together
 abbrev pub nodes_in : List Tile → ℕ → Axis → (ℕ → ℕ → Bool) → ℕ
 nodes_in ts radius axis f = nodes_of ts radius axis (refuted_pairs ts axis f)
+
+-- the nodes of all trees of both axes, together
+abbrev pub all_nodes : Plan → ℕ
+all_nodes p = nodes_in p.fine.tiles p.radius One p.one + nodes_in p.fine.tiles p.radius Two p.two
 
 -- Why the trees aren't all there: the first beyond the budget, or more than 1,048,576 nodes.
 unfoldable pub trees_fault : List Tile → ℕ → (ℕ → ℕ → Bool) → (ℕ → ℕ → Bool) → ℕ → Option DeriveEnd
@@ -152,7 +170,7 @@ derived p = record {
   markers = p.class;
   allowed1 = allowed_pairs p One;
   allowed2 = allowed_pairs p Two;
-  refuted = entries p.fine.tiles p.radius One p.one ++ entries p.fine.tiles p.radius Two p.two;
+  refuted = all_entries p.fine.tiles p.radius p.one p.two;
   images = images_of p;
 }
 

@@ -4,8 +4,8 @@ ghost use Rattle.wt_grid.specs.Axes.{other};
 ghost use Rattle.std.specs.List.{range_with_len};
 ghost use Rattle.wt_tile.specs.Sets.{set_fault};
 ghost use Rattle.wt_marker.specs.Gather.{any_from};
-ghost use Rattle.wt_window.specs.Surrounded.{allowed, on};
-ghost use Rattle.wt_marker.specs.Classes.{labels_of, class_at, kept_classes};
+ghost use Rattle.wt_window.specs.Surrounded.{allowed};
+ghost use Rattle.wt_marker.specs.Classes.{labels_of, class_at, kept_classes, kept_on};
 ghost use Rattle.wt_marker.specs.Classes as spec;
 
 use crate::pushes::push_if;
@@ -195,7 +195,7 @@ pub fn marker_classes(
     two: &DominoTable,
 ) -> Result<Vec<Vec<u16>>, AllocError>
     ensures { IfOk result (λ classes. map (λ c. c.items) classes.items
-        ≡ kept_classes (length set.entry.list.now.tiles) (on (other axis) (allowed one.now) (allowed two.now)) (on axis (allowed one.now) (allowed two.now))) }
+        ≡ kept_on (length set.entry.list.now.tiles) axis (allowed one.now) (allowed two.now)) }
 {
     let count = set.len() as u16;
     match axis {

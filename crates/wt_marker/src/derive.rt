@@ -1,5 +1,5 @@
 //! Steps derived from tables of dominoes.
-ghost use Rattle.std.specs.Prelude.{[], min, ◌≡◌, ◌⊎◌, ◌≤◌, ◌<◌, ◌+◌, ◌++◌, None, Some, true, nat_lt, length, map, All, IfOk, IfErr, OnOk, IsTrue, ◌↔◌, if◌then◌else◌};
+ghost use Rattle.std.specs.Prelude.{[], min, ◌≡◌, ◌⊎◌, ◌≤◌, ◌<◌, ◌+◌, None, Some, true, nat_lt, length, map, All, IfOk, IfErr, OnOk, IsTrue, ◌↔◌, if◌then◌else◌};
 ghost use Rattle.std.specs.List.{list_all};
 ghost use Rattle.wt_grid.specs.declared.axis.Axis.TheVariants.{One, Two};
 ghost use Rattle.wt_tile.specs.Sets.{set_fault};
@@ -10,7 +10,7 @@ ghost use Rattle.wt_marker.specs.Coarse as coarse_spec;
 ghost use Rattle.wt_marker.specs.Gather.{pairs_of};
 ghost use Rattle.wt_marker.specs.Classes.{is_in};
 ghost use Rattle.wt_marker.specs.Demanded.{demanded};
-ghost use Rattle.wt_marker.specs.Derived.{IsReason, MayAnswerStep, first_spent, nodes_in, plan, IsPlan, derived, derive_fault, entries, images_of, images_with, edges_in};
+ghost use Rattle.wt_marker.specs.Derived.{IsReason, MayAnswerStep, first_spent, nodes_in, plan, IsPlan, derived, derive_fault, entries, images_of, images_with, edges_in, plan_by, all_entries};
 ghost use Rattle.wt_marker.specs.Forests.{HasGrownBy, with_more};
 ghost use Rattle.wt_marker.specs.Derived as spec;
 
@@ -90,7 +90,7 @@ fn refute_all(
     requires same { sides.now.tiles.now ≡ set.list.now.tiles }
     requires tells1 { Tells set.list.now.tiles One radius (allowed one.now) }
     requires tells2 { Tells set.list.now.tiles Two radius (allowed two.now) }
-    ensures entries { IfOk result (λ out. out.items ≡ entries set.entry.list.now.tiles radius One (allowed one.now) ++ entries set.entry.list.now.tiles radius Two (allowed two.now)) }
+    ensures entries { IfOk result (λ out. out.items ≡ all_entries set.entry.list.now.tiles radius (allowed one.now) (allowed two.now)) }
     ensures none { OnOk result (spec.trees_fault set.entry.list.now.tiles radius (allowed one.now) (allowed two.now) budget ≡ None) }
     ensures refused { IfErr result (IsReason (spec.trees_fault set.entry.list.now.tiles radius (allowed one.now) (allowed two.now) budget)) }
 {
@@ -191,10 +191,10 @@ fn derive_raw(
     budget: u64,
 ) -> Result<RawStep, DeriveEnd>
     requires small { radius ≤ 4 }
-    requires plan { IsPlan (plan set.list.now axis side radius class.now (allowed one.now) (allowed two.now)) }
-    ensures derived { IfOk result (λ step. step ≡ derived (plan set.entry.list.now axis side radius class.now (allowed one.now) (allowed two.now))) }
-    ensures none { OnOk result (derive_fault (plan set.entry.list.now axis side radius class.now (allowed one.now) (allowed two.now)) budget ≡ None) }
-    ensures refused { IfErr result (IsReason (derive_fault (plan set.entry.list.now axis side radius class.now (allowed one.now) (allowed two.now)) budget)) }
+    requires plan { IsPlan (plan_by set.list.now axis side radius class.now one.now two.now) }
+    ensures derived { IfOk result (λ step. step ≡ derived (plan_by set.entry.list.now axis side radius class.now one.now two.now)) }
+    ensures none { OnOk result (derive_fault (plan_by set.entry.list.now axis side radius class.now one.now two.now) budget ≡ None) }
+    ensures refused { IfErr result (IsReason (derive_fault (plan_by set.entry.list.now axis side radius class.now one.now two.now) budget)) }
 {
     let count = set.len() as u16;
     let images = list_images(alloc, set, side, class, on_axis(axis, one, two))?;
@@ -251,8 +251,8 @@ pub fn derive_step(
     budget: u64,
 ) -> Result<Step, DeriveEnd>
     requires small { radius ≤ 4 }
-    requires plan { IsPlan (plan set.list.now axis side radius class.now (allowed one.now) (allowed two.now)) }
-    ensures { MayAnswerStep (plan set.entry.list.now axis side radius class.now (allowed one.now) (allowed two.now)) budget result }
+    requires plan { IsPlan (plan_by set.list.now axis side radius class.now one.now two.now) }
+    ensures { MayAnswerStep (plan_by set.entry.list.now axis side radius class.now one.now two.now) budget result }
 {
     match derive_raw(alloc, set, axis, side, radius, class, one, two, budget) {
         Ok(raw) => Ok(Step::of(raw)),

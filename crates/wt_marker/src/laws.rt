@@ -1,30 +1,24 @@
 //! What classes and derived steps are, as theorems: each is the contract of a function that does nothing.
-ghost use Rattle.std.specs.Prelude.{◌≡◌, ◌↔◌, ◌+◌, ◌<◌, ◌≤◌, ℕ, Bool, true, List, [], length, All, Contains, None, Some, slice_get, slice_index_or};
+ghost use Rattle.std.specs.Prelude.{◌≡◌, ◌↔◌, ◌<◌, ◌≤◌, ℕ, Bool, true, List, [], length, All, Contains, None};
 ghost use Rattle.wt_step.specs.Limits.{IsSlimStep};
 ghost use Rattle.wt_grid.specs.declared.limits.TheConstants.{MAX_TILES};
-ghost use Rattle.wt_grid.specs.Axes.{other};
-ghost use Rattle.wt_grid.specs.declared.axis.Side.{Side};
-ghost use Rattle.wt_grid.specs.declared.axis.Axis.TheVariants.{One, Two};
 ghost use Rattle.wt_grid.specs.declared.axis.Axis.{Axis};
 ghost use Rattle.wt_tile.specs.declared.fusion.Fused.{Fused};
-ghost use Rattle.wt_tile.specs.declared.tile.TileList.{TileList};
 ghost use Rattle.wt_refute.specs.declared.tree.Refuted.{Refuted};
 ghost use Rattle.wt_tile.specs.Matching.{blank};
 ghost use Rattle.wt_tile.specs.Sets.{set_fault};
 ghost use Rattle.wt_pattern.specs.Windows.{IsSurroundable};
 ghost use Rattle.wt_step.specs.Words.{allows};
 ghost use Rattle.wt_step.specs.Faults.{step_fault};
-ghost use Rattle.wt_window.specs.Surrounded.{Tells, on};
-ghost use Rattle.wt_marker.specs.Classes.{IsKeptClass, BeginsBelow, kept_classes};
-ghost use Rattle.wt_marker.specs.Coarse.{number_tiles};
+ghost use Rattle.wt_marker.specs.Classes.{IsKeptClass, kept_classes, AreByLeast};
+ghost use Rattle.wt_marker.specs.Coarse.{number_tiles, AreSameAt};
 ghost use Rattle.wt_refute.specs.declared.limits.TheConstants.{MAX_NODES};
-ghost use Rattle.wt_marker.specs.Derived.{Plan, plan, IsPlan, derived, derive_fault, dominoes, images_of, nodes_in, refuted_pairs, IsRefutable};
+ghost use Rattle.wt_marker.specs.Derived.{Plan, IsPlan, derived, derive_fault, dominoes, images_of, refuted_pairs, IsRefutable, IsListedPlan, all_nodes};
 
 /// The listed classes are exactly the kept ones, by their least tiles.
 pub fn classes_are_kept()
     ensures exactly { (n : ℕ) (f g : ℕ → ℕ → Bool) (c : List ℕ) → Contains (kept_classes n f g) c ↔ IsKeptClass n f g c }
-    ensures by_least { (n : ℕ) (f g : ℕ → ℕ → Bool) (i j : ℕ) (c d : List ℕ) → slice_get (kept_classes n f g) i ≡ Some c → slice_get (kept_classes n f g) j ≡ Some d
-        → i < j → BeginsBelow c d }
+    ensures by_least { (n : ℕ) (f g : ℕ → ℕ → Bool) → AreByLeast (kept_classes n f g) }
 {}
 
 /// The allowed pairs of a derived step are exactly the surroundable ones.
@@ -41,14 +35,12 @@ pub fn refuted_pairs_have_empty_windows()
 /// Two tiles of the coarse set are equal exactly where the images that they stand for show the same edges.
 pub fn coarse_tiles_tell_edges()
     ensures { (ts : List Fused) (i j : ℕ) (e : Fused) → i < length ts → j < length ts
-        → (slice_index_or (number_tiles [] [] ts) i blank ≡ slice_index_or (number_tiles [] [] ts) j blank) ↔ (slice_index_or ts i e ≡ slice_index_or ts j e) }
+        → AreSameAt (number_tiles [] [] ts) blank i j ↔ AreSameAt ts e i j }
 {}
 
 /// A class that was listed makes a plan, where both tables tell of the set and the radius.
 pub fn listed_classes_make_plans()
-    ensures { (fine : TileList) (axis : Axis) (side : Side) (radius : ℕ) (c : List ℕ) (one two : ℕ → ℕ → Bool)
-        → Tells fine.tiles One radius one → Tells fine.tiles Two radius two
-        → Contains (kept_classes (length fine.tiles) (on (other axis) one two) (on axis one two)) c → IsPlan (plan fine axis side radius c one two) }
+    ensures { (p : Plan) → IsListedPlan p → IsPlan p }
 {}
 
 /// A derived step keeps to the limits of a certificate's text: of its lists, of its trees, which have at most
@@ -56,7 +48,7 @@ pub fn listed_classes_make_plans()
 /// a name.
 pub fn derived_steps_are_small()
     ensures step { (p : Plan) (budget : ℕ) → p.radius ≤ 4 → length p.fine.tiles ≤ MAX_TILES → IsPlan p → derive_fault p budget ≡ None → IsSlimStep (derived p) }
-    ensures nodes { (p : Plan) (budget : ℕ) → derive_fault p budget ≡ None → nodes_in p.fine.tiles p.radius One p.one + nodes_in p.fine.tiles p.radius Two p.two ≤ MAX_NODES }
+    ensures nodes { (p : Plan) (budget : ℕ) → derive_fault p budget ≡ None → all_nodes p ≤ MAX_NODES }
 {}
 
 /// A step that is derived without a reason for a refusal is good.
