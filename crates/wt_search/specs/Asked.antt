@@ -1,17 +1,16 @@
 -- What a search is asked for, and the step that it takes at a level.
 use Rattle.std.specs.Prelude.{ℕ, ◌%◌, ◌≡◌, ◌⊎◌, Bool, Option, None, Some, List, length, slice_get, slice_index_or, Result, Ok, Err, MatchResult}
-use Rattle.wt_grid.specs.Axes.{other}
 use Rattle.wt_grid.specs.declared.axis.Axis.{Axis}
 use Rattle.wt_grid.specs.declared.axis.Axis.TheVariants.{One, Two}
 use Rattle.wt_grid.specs.declared.axis.Side.{Side}
 use Rattle.wt_tile.specs.declared.tile.Tile.{Tile}
 use Rattle.wt_tile.specs.declared.tile.TileList.{TileList}
 use Rattle.wt_step.specs.declared.raw.RawStep.{RawStep}
-use Rattle.wt_window.specs.Surrounded.{surroundable, on}
+use Rattle.wt_window.specs.Surrounded.{surroundable}
 use Rattle.wt_window.specs.Outcomes.{HasNoMatch, IsSpentPair}
 use Rattle.wt_marker.specs.declared.end.DeriveEnd.{DeriveEnd}
 use Rattle.wt_marker.specs.declared.end.DeriveEnd.TheVariants.{EmptySet, TooManyTiles, Repeated, Spent, TooManyNodes, OutOfMemory}
-use Rattle.wt_marker.specs.Classes.{kept_classes}
+use Rattle.wt_marker.specs.Classes.{kept_on}
 use Rattle.wt_marker.specs.Derived.{Plan, plan, derive_fault, derived}
 use Rattle.wt_search.specs.declared.end.SearchEnd.{SearchEnd}
 use Rattle.wt_search.specs.declared.end.SearchEnd.TheVariants as ends
@@ -41,10 +40,7 @@ dominoes_of s set axis = surroundable set.tiles axis s.radius
 
 -- the kept classes of the level's axis
 abbrev pub classes_at : Asked → ℕ → TileList → List (List ℕ)
-classes_at s level set =
-    kept_classes (length set.tiles)
-    (on (other (axis_at s level)) (dominoes_of s set One) (dominoes_of s set Two))
-    (on (axis_at s level) (dominoes_of s set One) (dominoes_of s set Two))
+classes_at s level set = kept_on (length set.tiles) (axis_at s level) (dominoes_of s set One) (dominoes_of s set Two)
 
 -- what the step of a class is derived from
 abbrev pub plan_at : Asked → ℕ → TileList → List ℕ → Plan
@@ -98,3 +94,17 @@ IsGivenUp ts radius budget level result = MatchResult result (λ _. ⊥) (λ e. 
 -- At budget 0 the search of a set with a pair that matches is given up at this level.
 abbrev pub EndsAtZero : {A : Type 0} → List Tile → ℕ → ℕ → ℕ → Result A SearchEnd → Type 0
 EndsAtZero ts radius budget level result = budget ≡ 0 → HasNoMatches ts ⊎ IsGivenUp ts radius budget level result
+
+-- a call ends as it must, or because memory ran out
+abbrev pub EndsAs : {A : Type 0} → Result A SearchEnd → SearchEnd → Type 0
+EndsAs met e = (e ≡ ends.OutOfMemory) ⊎ (met ≡ Err e)
+
+-- the table of an axis ends so: memory ran out, or a window is spent
+abbrev pub MayEndTable : List Tile → Axis → ℕ → ℕ → ℕ → SearchEnd → Type 0
+MayEndTable ts axis radius budget level e =
+    (e ≡ ends.OutOfMemory) ⊎ ((a : ℕ) × (b : ℕ) × (e ≡ ends.Spent level axis a b) × IsSpentPair ts axis a b radius budget)
+
+-- a level ends so: memory ran out, a window is spent, or else as its step must
+abbrev pub MayEndLevel : Asked → ℕ → TileList → SearchEnd → Type 0
+MayEndLevel s level set e =
+    (e ≡ ends.OutOfMemory) ⊎ IsSpent set.tiles s.radius s.budget level e ⊎ (step_at s level set ≡ Err e)

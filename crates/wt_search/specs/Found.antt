@@ -1,7 +1,8 @@
 -- The chain that a search finds, or why it finds none.
-use Rattle.std.specs.Prelude.{ℕ, zero, suc, ◌+◌, ◌≡◌, ◌⊎◌, ◌<◌, Option, None, Some, option_map, List, [], ◌∷◌, ◌++◌, length, drop, nat_lt, if◌then◌else◌, Result, Ok, Err, IfOk, IfErr}
+use Rattle.std.specs.Prelude.{ℕ, zero, suc, ◌+◌, ◌≡◌, ◌⊎◌, ◌<◌, ◌≤◌, Option, None, Some, option_map, List, [], ◌∷◌, ◌++◌, length, drop, nat_lt, if◌then◌else◌, Result, Ok, Err, IfOk, IfErr}
 use Rattle.wt_chain.specs.Limits.{nodes_with}
 use Rattle.wt_tile.specs.declared.tile.TileList.{TileList}
+use Rattle.wt_tile.specs.Sets.{set_fault}
 use Rattle.wt_grid.specs.First.{first_from}
 use Rattle.wt_refute.specs.declared.tree.Refuted.{Refuted}
 use Rattle.wt_refute.specs.Refutation.{node_count}
@@ -17,7 +18,7 @@ use Rattle.wt_chain.specs.Sets.{set_at, last_set, first_count}
 use Rattle.wt_chain.specs.Faults.{least_expansion}
 use Rattle.wt_search.specs.declared.end.SearchEnd.{SearchEnd}
 use Rattle.wt_search.specs.declared.end.SearchEnd.TheVariants.{TooManyNodes, NotGrowing, Levels, OutOfMemory}
-use Rattle.wt_search.specs.declared.limits.TheConstants.{MAX_NODES}
+use Rattle.wt_search.specs.declared.limits.TheConstants.{MAX_LEVELS, MAX_NODES}
 use Rattle.wt_search.specs.Asked.{Asked, step_at, IsSpent, EndsAtZero}
 
 -- n nodes, where they are within the limit
@@ -116,3 +117,15 @@ pub record MayAnswerSearch (s : Asked) (set : TileList) (levels : ℕ) (result :
 abbrev pub links_of : Option (List RawLink) → List RawLink
 links_of None = []
 links_of (Some links) = links
+
+-- one level on, a search may end so: memory ran out, a window is spent, or else as it must
+abbrev pub MayEndNext : Asked → TileList → ℕ → List RawLink → ℕ → SearchEnd → Type 0
+MayEndNext s set level links nodes e =
+    (e ≡ OutOfMemory) ⊎ IsSpent (last_set set links).tiles s.radius s.budget level e ⊎ (next s set level (going links nodes) ≡ over (Err e))
+
+-- a chain that a search finds for a tile set, at a radius and within levels that may be asked
+pub record IsFound (s : Asked) (set : TileList) (levels : ℕ) (c : RawChain) : Type 0 where
+  pub radius : s.radius ≤ 4
+  pub few : levels ≤ MAX_LEVELS
+  pub good : set_fault set ≡ None
+  pub found : found s set levels ≡ Ok c

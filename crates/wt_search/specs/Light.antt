@@ -1,5 +1,5 @@
 -- Light chains: each refuted pair has the least radius at which its window is empty, and a tree that cites what is refuted at lower radii.
-use Rattle.std.specs.Prelude.{ℕ, zero, suc, ◌+◌, ◌≡◌, ◌<◌, ◌≤◌, Bool, not, nat_lt, List, [], ◌++◌, length, map, filter}
+use Rattle.std.specs.Prelude.{ℕ, zero, suc, ◌+◌, ◌≡◌, ◌<◌, ◌≤◌, Bool, not, nat_lt, List, [], ◌++◌, length, map, filter, slice_get, Some}
 use Rattle.std.specs.List.{list_any}
 use Rattle.wt_grid.specs.declared.axis.Axis.{Axis}
 use Rattle.wt_grid.specs.declared.axis.Axis.TheVariants.{One, Two}
@@ -95,3 +95,12 @@ pub record IsLight (ts : List Tile) (entries : List Refuted) (r : Refuted) : Typ
   pub empty : IsEmptyWindow ts r.axis r.a r.b r.radius
   pub least : (q : ℕ) → 1 ≤ q → q < r.radius → IsSurroundable ts r.axis r.a r.b q
   pub tree : refutation r.tree ≡ standard_tree ts r.axis r.a r.b r.radius (filter (λ (e : Refuted). nat_lt e.radius r.radius) entries)
+
+-- so it is of each entry
+abbrev pub AreLight : List Tile → List Refuted → Type 0
+AreLight ts entries = (i : ℕ) (r : Refuted) → slice_get entries i ≡ Some r → IsLight ts entries r
+
+-- both steps refute the same pairs of the tiles of the first
+abbrev pub RefuteAlike : RawStep → RawStep → Type 0
+RefuteAlike s t =
+    (axis : Axis) (a b : ℕ) → a < length s.fine.tiles → b < length s.fine.tiles → has_refutation t axis a b ≡ has_refutation s axis a b

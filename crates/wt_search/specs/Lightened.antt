@@ -149,3 +149,11 @@ pub record IsJoined (ts : List Tile) (axis : Axis) (q : ℕ × ℕ) : Type 0 whe
 -- the step has no fault
 abbrev pub IsFaultless : RawLink → Type 0
 IsFaultless link = link_fault link ≡ None
+
+-- asking a pair may end so
+abbrev pub MayStopAtPair : List Tile → List Refuted → Round → ℕ × ℕ → ℕ → LightenEnd → Type 0
+MayStopAtPair ts known t q nodes e = MayStop (MayBeSpent ts t q e) (after_pair ts known t q nodes) e
+
+-- asking pairs in turn may end so
+abbrev pub MayStopAmong : List Tile → List Refuted → Round → List (ℕ × ℕ) → ℕ → LightenEnd → Type 0
+MayStopAmong ts known t qs nodes e = MayStop (MayBeSpentAmong ts known t qs nodes e) (after_pairs ts known t qs nodes) e

@@ -7,8 +7,8 @@ ghost use Rattle.wt_step.specs.declared.raw.RawLink.TheVariants.{Marker};
 ghost use Rattle.wt_chain.specs.Sets.{IsRenamed, last_set, set_at};
 ghost use Rattle.wt_chain.specs.Chains as chains;
 ghost use Rattle.wt_search.specs.declared.end.SearchEnd.TheVariants as ends;
-ghost use Rattle.wt_search.specs.Asked.{asked, IsSpent, EndsAtZero};
-ghost use Rattle.wt_search.specs.Found.{limited, after_meeting, at_start, meeting, going, over, next, MayAnswerSearch, links_of};
+ghost use Rattle.wt_search.specs.Asked.{asked, EndsAtZero};
+ghost use Rattle.wt_search.specs.Found.{limited, after_meeting, at_start, meeting, going, over, next, MayAnswerSearch, links_of, MayEndNext};
 ghost use Rattle.wt_search.specs.Found as spec;
 ghost use Rattle.wt_search.specs.States.{state_of, HasComeTo};
 
@@ -194,8 +194,7 @@ fn advance(
     requires below { level < MAX_LEVELS }
     ensures ok { IfOk result (λ p. next (asked axes.now side radius budget) set.entry.list.now level (going (links_of chain) nodes) ≡ state_of p) }
     ensures come { IfOk result (HasComeTo (level + 1)) }
-    ensures err { IfErr result (λ e. (e ≡ ends.OutOfMemory) ⊎ IsSpent (last_set set.entry.list.now (links_of chain)).tiles radius budget level e
-        ⊎ (next (asked axes.now side radius budget) set.entry.list.now level (going (links_of chain) nodes) ≡ over (Err e))) }
+    ensures err { IfErr result (MayEndNext (asked axes.now side radius budget) set.entry.list.now level (links_of chain) nodes) }
     ensures at_zero { EndsAtZero (last_set set.entry.list.now (links_of chain)).tiles radius budget level result }
 {
     match level_step(

@@ -1,8 +1,5 @@
 //! What a search finds, and when its budget is enough; and what light chains are.
-ghost use Rattle.std.specs.Prelude.{◌≡◌, ◌<◌, ◌≤◌, ℕ, None, Some, Ok, length, slice_get};
-ghost use Rattle.wt_grid.specs.declared.axis.Axis.{Axis};
-ghost use Rattle.wt_tile.specs.Sets.{set_fault};
-ghost use Rattle.wt_refute.specs.declared.tree.Refuted.{Refuted};
+ghost use Rattle.std.specs.Prelude.{◌≡◌, ◌≤◌, ℕ, None, Ok};
 ghost use Rattle.wt_step.specs.declared.raw.RawStep.{RawStep};
 ghost use Rattle.wt_step.specs.Faults.{step_fault};
 ghost use Rattle.wt_chain.specs.Faults.{chain_fault};
@@ -12,23 +9,23 @@ ghost use Rattle.wt_tile.specs.declared.tile.TileList.{TileList};
 ghost use Rattle.wt_chain.specs.declared.raw.RawChain.{RawChain};
 ghost use Rattle.wt_search.specs.declared.end.SearchEnd.{SearchEnd};
 ghost use Rattle.wt_search.specs.Asked.{Asked};
-ghost use Rattle.wt_search.specs.Found.{found, MayEnd};
+ghost use Rattle.wt_search.specs.Found.{MayEnd, IsFound};
 ghost use Rattle.wt_search.specs.Enough.{IsEnough, IsNotSpent};
-ghost use Rattle.wt_search.specs.Light.{IsLight, light, light_step, has_refutation};
+ghost use Rattle.wt_search.specs.Light.{light, light_step, AreLight, RefuteAlike};
 ghost use Rattle.wt_search.specs.Lightened.{lightened};
 
-use crate::{MAX_LEVELS, MAX_NODES};
+use crate::MAX_NODES;
 
 /// A chain that is found is good, and its first step takes apart the set that was searched.
 pub fn found_chains_are_good()
-    ensures { (s : Asked) (set : TileList) (levels : ℕ) (c : RawChain) → s.radius ≤ 4 → levels ≤ MAX_LEVELS → set_fault set ≡ None
-        → found s set levels ≡ Ok c → (chain_fault c ≡ None) × BeginsWith set c.steps }
+    ensures { (s : Asked) (set : TileList) (levels : ℕ) (c : RawChain) → IsFound s set levels c
+        → (chain_fault c ≡ None) × BeginsWith set c.steps }
 {}
 
 /// A chain that is found is within the limits of a text.
 pub fn found_chains_are_within_limits()
-    ensures { (s : Asked) (set : TileList) (levels : ℕ) (c : RawChain) → s.radius ≤ 4 → levels ≤ MAX_LEVELS → set_fault set ≡ None
-        → found s set levels ≡ Ok c → IsWithinLimits c }
+    ensures { (s : Asked) (set : TileList) (levels : ℕ) (c : RawChain) → IsFound s set levels c
+        → IsWithinLimits c }
 {}
 
 /// Where no window of two matching tiles of a level that is searched has more trials than the budget, and no
@@ -46,9 +43,8 @@ pub fn light_chains_are_good()
 /// Each refutation of a light step has the least radius, from 1 on, at which its window is empty, and its tree is the
 /// standard one with the refutations of lower radius known. A light step of a good one refutes the same pairs.
 pub fn light_steps_have_least_radii()
-    ensures entries { (s : RawStep) (i : ℕ) (r : Refuted) → slice_get (light_step s).refuted i ≡ Some r → IsLight s.fine.tiles (light_step s).refuted r }
-    ensures pairs { (s : RawStep) → step_fault s ≡ None → (axis : Axis) (a b : ℕ) → a < length s.fine.tiles → b < length s.fine.tiles
-        → has_refutation (light_step s) axis a b ≡ has_refutation s axis a b }
+    ensures entries { (s : RawStep) → AreLight s.fine.tiles (light_step s).refuted }
+    ensures pairs { (s : RawStep) → step_fault s ≡ None → RefuteAlike s (light_step s) }
 {}
 
 /// Where no end is met, the trees of the light chain have as many nodes as are counted: at most 1,048,576.

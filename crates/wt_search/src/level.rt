@@ -1,13 +1,12 @@
 //! The step of a level.
-ghost use Rattle.std.specs.Prelude.{◌≡◌, ◌⊎◌, ◌<◌, ◌≤◌, ℕ, length, map, option_map, slice_get, Contains, IfOk, IfErr, Ok, Err, List};
-ghost use Rattle.wt_grid.specs.Axes.{other};
+ghost use Rattle.std.specs.Prelude.{◌≡◌, ◌⊎◌, ◌<◌, ◌≤◌, length, map, option_map, slice_get, Contains, IfOk, IfErr, Ok, Err, List};
 ghost use Rattle.wt_grid.specs.declared.axis.Axis.TheVariants.{One, Two};
-ghost use Rattle.wt_window.specs.Surrounded.{surroundable, allowed, on};
-ghost use Rattle.wt_window.specs.Outcomes.{HasNoMatch, IsSpentPair};
-ghost use Rattle.wt_marker.specs.Classes.{kept_classes};
-ghost use Rattle.wt_marker.specs.Derived.{plan};
+ghost use Rattle.wt_window.specs.Surrounded.{surroundable, allowed};
+ghost use Rattle.wt_window.specs.Outcomes.{HasNoMatch};
+ghost use Rattle.wt_marker.specs.Classes.{kept_on};
+ghost use Rattle.wt_marker.specs.Derived.{plan_by};
 ghost use Rattle.wt_search.specs.declared.end.SearchEnd.TheVariants as ends;
-ghost use Rattle.wt_search.specs.Asked.{turn_axis, asked, planned_step, step_at, IsSpent, HasNoMatches, EndsAtZero};
+ghost use Rattle.wt_search.specs.Asked.{turn_axis, asked, planned_step, step_at, IsSpent, HasNoMatches, EndsAtZero, EndsAs, MayEndTable, MayEndLevel};
 ghost use Rattle.wt_search.specs.Asked as spec;
 
 use crate::SearchEnd;
@@ -54,8 +53,7 @@ fn table_at(
     requires { radius ≤ 4 }
     ensures table { IfOk result (λ t. allowed t ≡ surroundable set.entry.list.now.tiles axis radius) }
     ensures none { IfOk result (λ t. budget ≡ 0 → HasNoMatch set.entry.list.now.tiles axis) }
-    ensures end { IfErr result (λ e. (e ≡ ends.OutOfMemory)
-        ⊎ ((a : ℕ) × (b : ℕ) × (e ≡ ends.Spent level axis a b) × IsSpentPair set.entry.list.now.tiles axis a b radius budget)) }
+    ensures end { IfErr result (MayEndTable set.entry.list.now.tiles axis radius budget level) }
 {
     match dominoes(alloc, set, axis, radius, budget) {
         Ok(table) => Ok(table),
@@ -103,12 +101,9 @@ fn step_of(
     requires radius { radius ≤ 4 }
     requires one { allowed one.now ≡ surroundable set.list.now.tiles One radius }
     requires two { allowed two.now ≡ surroundable set.list.now.tiles Two radius }
-    requires kept { Contains (kept_classes (length set.list.now.tiles)
-        (on (other axis) (allowed one.now) (allowed two.now)) (on axis (allowed one.now) (allowed two.now))) class.now }
-    ensures ok { IfOk result (λ step.
-        planned_step level budget (plan set.entry.list.now axis side radius class.now (allowed one.now) (allowed two.now)) ≡ Ok step) }
-    ensures err { IfErr result (λ e. (e ≡ ends.OutOfMemory)
-        ⊎ (planned_step level budget (plan set.entry.list.now axis side radius class.now (allowed one.now) (allowed two.now)) ≡ Err e)) }
+    requires kept { Contains (kept_on (length set.list.now.tiles) axis (allowed one.now) (allowed two.now)) class.now }
+    ensures ok { IfOk result (λ step. planned_step level budget (plan_by set.entry.list.now axis side radius class.now one.now two.now) ≡ Ok step) }
+    ensures err { IfErr result (EndsAs (planned_step level budget (plan_by set.entry.list.now axis side radius class.now one.now two.now))) }
 {
     match derive_step(alloc, set, axis, side, radius, class, one, two, budget) {
         Ok(step) => Ok(step),
@@ -138,8 +133,7 @@ pub fn level_step(
     requires some { 0 < length axes.now }
     requires radius { radius ≤ 4 }
     ensures ok { IfOk result (λ step. step_at (asked axes.now side radius budget) level set.entry.list.now ≡ Ok step) }
-    ensures err { IfErr result (λ e. (e ≡ ends.OutOfMemory) ⊎ IsSpent set.entry.list.now.tiles radius budget level e
-        ⊎ (step_at (asked axes.now side radius budget) level set.entry.list.now ≡ Err e)) }
+    ensures err { IfErr result (MayEndLevel (asked axes.now side radius budget) level set.entry.list.now) }
     ensures at_zero { EndsAtZero set.entry.list.now.tiles radius budget level result }
 {
     let axis = axis_of(axes, level);

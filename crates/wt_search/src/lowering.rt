@@ -4,7 +4,7 @@ ghost use Rattle.wt_refute.specs.Entries.{ascends};
 ghost use Rattle.wt_search.specs.Light.{entry_of, entries_of};
 ghost use Rattle.wt_search.specs.Light as light;
 ghost use Rattle.wt_search.specs.declared.light_end.LightenEnd.TheVariants as ends;
-ghost use Rattle.wt_search.specs.Lightened.{MayStop, after_pair, after_pairs, after_window, MayBeSpent, MayBeSpentAmong, IsJoined};
+ghost use Rattle.wt_search.specs.Lightened.{after_pair, after_pairs, after_window, MayBeSpent, IsJoined, MayStopAtPair, MayStopAmong};
 ghost use Rattle.wt_search.specs.Lightened as spec;
 
 use crate::finding::nodes_after;
@@ -131,7 +131,7 @@ fn ask(
     ensures nodes { IfOk result (λ n. (after_pair set.entry.list.now.tiles known.now round pair nodes ≡ Ok n) × (n ≤ MAX_NODES)) }
     ensures entries { OnOk result (entries.new.items ≡ entries.old.items ++ entries_of set.entry.list.now.tiles known.now round.radius round.axis (pair ∷ [])) }
     ensures left { OnOk result (left.new.items ≡ left.old.items ++ filter (light.has_window set.entry.list.now.tiles round.axis round.radius) (pair ∷ [])) }
-    ensures end { IfErr result (λ e. MayStop (MayBeSpent set.entry.list.now.tiles round pair e) (after_pair set.entry.list.now.tiles known.now round pair nodes) e) }
+    ensures end { IfErr result (MayStopAtPair set.entry.list.now.tiles known.now round pair nodes) }
 {
     match has_window(alloc, set, round, pair) {
         Err(end) => Err(end),
@@ -174,7 +174,7 @@ pub fn ask_all(
     ensures nodes { IfOk result (λ r. (after_pairs set.entry.list.now.tiles known.now round pairs.now nodes ≡ Ok r.1) × (r.1 ≤ MAX_NODES)) }
     ensures entries { OnOk result (entries.new.items ≡ entries.old.items ++ entries_of set.entry.list.now.tiles known.now round.radius round.axis pairs.now) }
     ensures left { IfOk result (λ r. r.0.items ≡ filter (light.has_window set.entry.list.now.tiles round.axis round.radius) pairs.now) }
-    ensures end { IfErr result (λ e. MayStop (MayBeSpentAmong set.entry.list.now.tiles known.now round pairs.now nodes e) (after_pairs set.entry.list.now.tiles known.now round pairs.now nodes) e) }
+    ensures end { IfErr result (MayStopAmong set.entry.list.now.tiles known.now round pairs.now nodes) }
 {
     let mut left = Vec::new(alloc);
     let mut sum = nodes;

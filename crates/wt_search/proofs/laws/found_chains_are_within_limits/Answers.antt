@@ -3,6 +3,6 @@ use Rattle.wt_search.proofs.Sound.{sound_found}
 use Rattle.wt_search.proofs.laws.found_chains_are_within_limits.Goals as goal
 
 pub returns : goal.returns
-returns c = λ s set levels chain radius few good e.
-    let small = small_found s set levels chain e in
-    record { steps = (sound_found s set radius good levels chain few e).2; nodes = small.nodes; end = small.end }
+returns c = λ s set levels chain f.
+    let small = small_found s set levels chain f.found in
+    record { steps = (sound_found s set f.radius f.good levels chain f.few f.found).2; nodes = small.nodes; end = small.end }
