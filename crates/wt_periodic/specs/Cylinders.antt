@@ -9,6 +9,8 @@ use Rattle.wt_lane.specs.Masks.{mask_bit}
 use Rattle.wt_mask.specs.Masks.{bit, mask_at}
 use Rattle.wt_pattern.specs.Windows.{IsSurroundable}
 use Rattle.wt_window.specs.Surrounded.{allowed}
+use Rattle.wt_window.specs.Begun.{AllBegun}
+use Rattle.wt_periodic.specs.Fillings.{HasNext}
 use Rattle.wt_periodic.specs.Wraps.{HasNoWrapOf}
 use Rattle.wt_periodic.specs.declared.pairs.TheConstants.{RADIUS}
 
@@ -64,3 +66,7 @@ IsDead ts Two n = (w : ℕ) → HasNoWrapOf ts w n
 -- the lengths that are marked are dead
 abbrev pub AreDead : List Tile → Axis → List Bool → Type 0
 AreDead ts axis marks = (n : ℕ) → slice_index_or marks n false ≡ true → IsDead ts axis n
+
+-- the mask has the next tile of each cylinder along this axis that begins with as many of these cells
+abbrev pub HasNextTiles : List Tile → Axis → ℕ → List ℕ → ℕ → List ℕ → Type 0
+HasNextTiles ts axis w filled at mask = AllBegun at filled (IsCylinder ts axis w (length filled)) (HasNext at mask)

@@ -6,7 +6,7 @@ use Rattle.wt_tile.specs.Matching.{matches}
 use Rattle.wt_lane.specs.Masks.{mask_bit}
 use Rattle.wt_mask.specs.Masks.{bit}
 use Rattle.wt_window.specs.Frames.{IsNext}
-use Rattle.wt_window.specs.Trials.{Window, IsFilling, fillings, implies, sum_to}
+use Rattle.wt_window.specs.Trials.{Window, IsFilling, fillings, implies, sum_to, trials_after}
 
 -- a rectangle of w by h cells as a window of no pair: the cells of its pair lie behind its last
 abbrev pub open_window : ℕ → ℕ → Window
@@ -44,3 +44,15 @@ pub record IsSought (ts : List Tile) (w h : ℕ) (g : List ℕ) : Type 0 where
 -- the mask of the tiles that match themselves along an axis
 abbrev pub IsSelves : List Tile → (ℕ → ℕ → Bool) → List ℕ → Type 0
 IsSelves ts fits mask = (u : ℕ) → mask_bit mask u ≡ bit (nat_lt u (length ts) && fits u u)
+
+-- the trials of a filling of the first i cells
+abbrev pub trials_left : List Tile → ℕ → ℕ → ℕ → List ℕ → ℕ
+trials_left ts w h i f = trials_after ts (open_window w h) i f
+
+-- none of the first n numbers is less than the first
+abbrev pub BeginsLeast : ℕ → List ℕ → Type 0
+BeginsLeast n g = (k : ℕ) → k < n → slice_index g 0 ≤ slice_index g k
+
+-- the mask has number n of a list
+abbrev pub HasNext : ℕ → List ℕ → List ℕ → Type 0
+HasNext n mask g = mask_bit mask (slice_index g n) ≡ 1

@@ -65,3 +65,15 @@ abbrev pub MayAnswerWrap : List Tile → ℕ → ℕ → Result (Option Grid) Wr
 MayAnswerWrap ts limit budget answer = MatchResult answer
     (λ found. MatchOption found (HasNone ts limit) (IsLeastWrap ts limit) × (0 < budget))
     (MayEndAt ts limit budget)
+
+-- the same of cells as many as this area
+abbrev pub IsLeastFrontOf : List Tile → ℕ → ℕ → Size → List ℕ → Type 0
+IsLeastFrontOf ts limit area size cells = IsLeastWrap ts limit (front_of size area cells) × (size.width * size.height ≡ area)
+
+-- the rectangle of this size with these cells
+abbrev pub sized : Size → List ℕ → Grid
+sized size cells = record { width = size.width; height = size.height; cells = cells }
+
+-- no size up to the limit has more trials than the budget
+abbrev pub IsEnough : List Tile → ℕ → ℕ → Type 0
+IsEnough ts limit budget = (m n : ℕ) → IsSize limit m n → wrap_trials ts m n ≤ budget

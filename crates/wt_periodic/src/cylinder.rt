@@ -1,11 +1,13 @@
 //! Lengths that no wrapping rectangle has, whatever its other side: lines of that length can't close and be stacked.
-ghost use Rattle.std.specs.Prelude.{◌≡◌, ℕ, ◌*◌, ◌<◌, ◌≤◌, true, Some, List, length, take, slice_index};
+ghost use Rattle.std.specs.Prelude.{◌≡◌, ℕ, ◌*◌, ◌<◌, ◌≤◌, true, Some, length, take, slice_index};
 ghost use Rattle.wt_grid.specs.Axes.{other};
 ghost use Rattle.wt_grid.specs.declared.axis.Axis.{Axis};
 ghost use Rattle.wt_lane.specs.Masks.{mask_bit};
 ghost use Rattle.wt_mask.specs.Masks.{mask_at};
 ghost use Rattle.wt_periodic.specs.Cylinders as spec;
 ghost use Rattle.wt_periodic.specs.declared.least.TheConstants.{MAX_CELLS, MAX_LIMIT};
+ghost use Rattle.wt_window.specs.Begun.{AllBegun, NoneBegun};
+ghost use Rattle.wt_periodic.specs.Fillings.{BeginsLeast};
 
 use crate::least::MAX_CELLS;
 use crate::pairs::Pairs;
@@ -27,7 +29,7 @@ fn mask_of(masks: &[[u64; 4]], tile: u16) -> [u64; 4]
 fn goes_on(along: &Pairs<'_>, width: usize, filled: &[u16], at: usize) -> [u64; 4]
     requires wide { 1 ≤ width }
     requires within { at < length filled.now }
-    ensures { (g : List ℕ) → spec.IsCylinder along.now.tiles.now along.now.axis width (length filled.now) g → take at g ≡ take at filled.now → mask_bit result (slice_index g at) ≡ 1 }
+    ensures { spec.HasNextTiles along.now.tiles.now along.now.axis width filled.now at result }
 {
     if at % width > 0 {
         mask_of(&along.ahead, filled[at - 1])
@@ -53,7 +55,7 @@ fn stacks(across: &Pairs<'_>, width: usize, filled: &[u16], at: usize) -> [u64; 
 fn closes(along: &Pairs<'_>, width: usize, filled: &[u16], at: usize) -> [u64; 4]
     requires wide { 1 ≤ width }
     requires within { at < length filled.now }
-    ensures { (g : List ℕ) → spec.IsCylinder along.now.tiles.now along.now.axis width (length filled.now) g → take at g ≡ take at filled.now → mask_bit result (slice_index g at) ≡ 1 }
+    ensures { spec.HasNextTiles along.now.tiles.now along.now.axis width filled.now at result }
 {
     if at % width != width - 1 {
         return along.all;
@@ -76,7 +78,7 @@ fn may_stack(
     requires same { across.now.tiles.now ≡ along.now.tiles.now }
     requires wide { 1 ≤ width }
     requires within { at < length filled.now }
-    ensures { (g : List ℕ) → spec.IsCylinder along.now.tiles.now along.now.axis width (length filled.now) g → take at g ≡ take at filled.now → mask_bit result (slice_index g at) ≡ 1 }
+    ensures { spec.HasNextTiles along.now.tiles.now along.now.axis width filled.now at result }
 {
     let mut mask = goes_on(along, width, filled, at);
     and_into(&mut mask, &stacks(across, width, filled, at));
@@ -87,7 +89,7 @@ fn may_stack(
 /// The least tile that may stand in a cell: none is below the first.
 fn first_tile(filled: &[u16], at: usize) -> usize
     requires { at < length filled.now }
-    ensures { (g : List ℕ) → ((k : ℕ) → k < length filled.now → slice_index g 0 ≤ slice_index g k) → take at g ≡ take at filled.now → slice_index g at < result → ⊥ }
+    ensures { AllBegun at filled.now (BeginsLeast (length filled.now)) (λ g. slice_index g at < result → ⊥) }
 {
     if at == 0 { 0 } else { usize::from(filled[0]) }
 }
@@ -108,8 +110,8 @@ fn stack(
     requires within { at ≤ length filled.old }
     ensures same { take at filled.new ≡ take at filled.old }
     ensures long { length filled.new ≡ length filled.old }
-    ensures none { (left : ℕ) → result ≡ Some left → (g : List ℕ) → spec.IsCylinder along.now.tiles.now along.now.axis width (length filled.old) g
-        → take at g ≡ take at filled.old → ⊥ }
+    ensures none { (left : ℕ) → result ≡ Some left
+        → NoneBegun at filled.old (spec.IsCylinder along.now.tiles.now along.now.axis width (length filled.old)) }
 {
     if steps == 0 || at == filled.len() {
         return None;

@@ -1,7 +1,6 @@
 //! What wrapping rectangles are, as theorems: each is the contract of a function that does nothing.
 ghost use Rattle.std.specs.Prelude.{◌≡◌, ◌≤◌, ℕ, List, None};
-ghost use Rattle.wt_periodic.specs.Fillings.{wrap_trials};
-ghost use Rattle.wt_periodic.specs.Least.{IsSize, IsLeastWrap, IsSpentAt};
+ghost use Rattle.wt_periodic.specs.Least.{IsLeastWrap, IsSpentAt, IsEnough};
 ghost use Rattle.wt_tile.specs.declared.tile.Tile.{Tile};
 ghost use Rattle.wt_grid.specs.Grid.{Grid};
 ghost use Rattle.wt_chain.specs.declared.raw.RawChain.{RawChain};
@@ -29,7 +28,7 @@ pub fn least_wraps_are_one()
 
 /// A budget of the greatest trials of a size up to the limit is enough: it is spent at no size.
 pub fn budgets_are_enough()
-    ensures { (ts : List Tile) (limit budget w h : ℕ) → ((m n : ℕ) → IsSize limit m n → wrap_trials ts m n ≤ budget) → IsSpentAt ts limit budget w h → ⊥ }
+    ensures { (ts : List Tile) (limit budget w h : ℕ) → IsEnough ts limit budget → IsSpentAt ts limit budget w h → ⊥ }
 {}
 
 /// No rectangle of tiles of the first set of a good looped chain wraps round, of any size: repeated to a large

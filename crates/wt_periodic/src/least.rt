@@ -219,7 +219,7 @@ fn of_area(
     requires some { 0 < budget }
     requires none { (m n : ℕ) → spec.IsSize limit m n → m * n < area → HasNoWrapOf rounds.now.tables.tiles.now m n }
     ensures wrap { (size : Size) → result ≡ Reached.Wrap size →
-        spec.IsLeastWrap rounds.now.tables.tiles.now limit (spec.front_of size area cells.new) × (size.width * size.height ≡ area) }
+        spec.IsLeastFrontOf rounds.now.tables.tiles.now limit area size cells.new }
     ensures nothing { result ≡ Reached.Nothing → (m n : ℕ) → spec.IsSize limit m n → m * n ≡ area → HasNoWrapOf rounds.now.tables.tiles.now m n }
     ensures spent { (size : Size) → result ≡ Reached.Spent size → spec.IsSpentAt rounds.now.tables.tiles.now limit budget size.width size.height }
 {

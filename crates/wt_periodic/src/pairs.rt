@@ -4,6 +4,7 @@ ghost use Rattle.std.specs.Prelude.{◌≡◌, ℕ, ◌<◌, ◌≤◌, ◌&&◌
 ghost use Rattle.wt_lane.specs.Masks.{mask_bit};
 ghost use Rattle.wt_mask.specs.Masks.{bit};
 ghost use Rattle.wt_periodic.specs.Cylinders as spec;
+ghost use Rattle.wt_window.specs.Frames.{HasThose};
 
 use std::alloc::{AllocError, Global};
 use wt_mask::set_bit;
@@ -114,7 +115,7 @@ fn mask_beside(
     t: u16,
 ) -> [u64; 4]
     requires { length tiles.now ≤ 256 }
-    ensures { (u : ℕ) → mask_bit result u ≡ bit (nat_lt u (length tiles.now) && spec.stands_beside table.now tiles.now axis behind t u) }
+    ensures { HasThose (length tiles.now) (spec.stands_beside table.now tiles.now axis behind t) result }
 {
     let mut mask = [0u64; 4];
     for u in 0..tiles.len() {

@@ -1,15 +1,16 @@
 //! The search of a wrapping rectangle of one size, depth first in reading order.
-ghost use Rattle.std.specs.Prelude.{◌≡◌, ◌⊎◌, ℕ, ◌+◌, ◌-◌, ◌*◌, ◌%◌, ◌<◌, ◌≤◌, ◌&&◌, List, length, take, slice_index, slice_set, nat_lt};
+ghost use Rattle.std.specs.Prelude.{◌≡◌, ℕ, ◌+◌, ◌-◌, ◌*◌, ◌%◌, ◌<◌, ◌≤◌, length, take, slice_index, slice_set};
 ghost use Rattle.wt_grid.specs.declared.axis.Axis.TheVariants.{Two};
 ghost use Rattle.wt_tile.specs.Matching.{matches};
 ghost use Rattle.wt_lane.specs.Masks.{mask_bit};
-ghost use Rattle.wt_mask.specs.Masks.{bit};
 ghost use Rattle.wt_window.specs.Trials as trial;
-ghost use Rattle.wt_grid.specs.Order.{IsBefore};
 ghost use Rattle.wt_periodic.specs.Fillings as spec;
 ghost use Rattle.wt_periodic.specs.declared.least.TheConstants.{MAX_LIMIT};
-ghost use Rattle.wt_periodic.specs.Least.{IsLeastOf};
+ghost use Rattle.wt_periodic.specs.Least.{IsLeastOf, sized};
 ghost use Rattle.wt_periodic.specs.Wraps.{HasNoWrapOf};
+ghost use Rattle.wt_window.specs.Frames.{HasThose, HasThoseBehind};
+ghost use Rattle.wt_window.specs.Begun.{AllBegun, LeadsBegun, NoneBegun};
+ghost use Rattle.wt_periodic.specs.Fillings.{BeginsLeast};
 
 use crate::rounds::Rounds;
 use wt_lane::and_into;
@@ -43,7 +44,7 @@ fn beside_left(rounds: &Rounds<'_>, size: Size, filled: &[u16], at: usize) -> [u
     requires wide { 1 ≤ size.width }
     requires within { at < length filled.now }
     requires tiles { (k : ℕ) → k < at → slice_index filled.now k < length rounds.now.tables.tiles.now }
-    ensures { (t : ℕ) → mask_bit result t ≡ bit (nat_lt t (length rounds.now.tables.tiles.now) && trial.fits_left rounds.now.tables.tiles.now (spec.open_window size.width size.height) (take at filled.now) t) }
+    ensures { HasThoseBehind trial.fits_left rounds.now.tables.tiles.now (spec.open_window size.width size.height) (take at filled.now) result }
 {
     if at % size.width > 0 {
         rounds.tables.right[usize::from(filled[at - 1])]
@@ -57,7 +58,7 @@ fn beside_below(rounds: &Rounds<'_>, size: Size, filled: &[u16], at: usize) -> [
     requires wide { 1 ≤ size.width }
     requires within { at < length filled.now }
     requires tiles { (k : ℕ) → k < at → slice_index filled.now k < length rounds.now.tables.tiles.now }
-    ensures { (t : ℕ) → mask_bit result t ≡ bit (nat_lt t (length rounds.now.tables.tiles.now) && trial.fits_below rounds.now.tables.tiles.now (spec.open_window size.width size.height) (take at filled.now) t) }
+    ensures { HasThoseBehind trial.fits_below rounds.now.tables.tiles.now (spec.open_window size.width size.height) (take at filled.now) result }
 {
     if size.width <= at {
         rounds.tables.up[usize::from(filled[at - size.width])]
@@ -71,7 +72,7 @@ fn row_closers(rounds: &Rounds<'_>, size: Size, filled: &[u16], at: usize) -> [u
     requires wide { 1 ≤ size.width }
     requires within { at < length filled.now }
     requires tiles { (k : ℕ) → k < at → slice_index filled.now k < length rounds.now.tables.tiles.now }
-    ensures { (t : ℕ) → mask_bit result t ≡ bit (nat_lt t (length rounds.now.tables.tiles.now) && spec.closes_row rounds.now.tables.tiles.now size.width (take at filled.now) t) }
+    ensures { HasThose (length rounds.now.tables.tiles.now) (spec.closes_row rounds.now.tables.tiles.now size.width (take at filled.now)) result }
 {
     if at % size.width != size.width - 1 {
         return rounds.tables.all;
@@ -91,7 +92,7 @@ fn column_closers(rounds: &Rounds<'_>, size: Size, filled: &[u16], at: usize) ->
     requires long { length filled.now ≡ size.width * size.height }
     requires within { at < length filled.now }
     requires tiles { (k : ℕ) → k < at → slice_index filled.now k < length rounds.now.tables.tiles.now }
-    ensures { (t : ℕ) → mask_bit result t ≡ bit (nat_lt t (length rounds.now.tables.tiles.now) && spec.closes_column rounds.now.tables.tiles.now size.width size.height (take at filled.now) t) }
+    ensures { HasThose (length rounds.now.tables.tiles.now) (spec.closes_column rounds.now.tables.tiles.now size.width size.height (take at filled.now)) result }
 {
     let last = filled.len() - size.width;
     if at < last {
@@ -106,7 +107,7 @@ fn column_closers(rounds: &Rounds<'_>, size: Size, filled: &[u16], at: usize) ->
 /// The tiles that may stand below a tile.
 fn below(rounds: &Rounds<'_>, tile: u16) -> [u64; 4]
     requires { tile < length rounds.now.tables.tiles.now }
-    ensures { (t : ℕ) → mask_bit result t ≡ bit (nat_lt t (length rounds.now.tables.tiles.now) && matches rounds.now.tables.tiles.now Two t tile) }
+    ensures { HasThose (length rounds.now.tables.tiles.now) (λ t. matches rounds.now.tables.tiles.now Two t tile) result }
 {
     rounds.tables.down[usize::from(tile)]
 }
@@ -121,8 +122,7 @@ fn closers(rounds: &Rounds<'_>, size: Size, filled: &[u16], at: usize) -> [u64; 
     requires within { at < length filled.now }
     requires begun { spec.IsClosed rounds.now.tables.tiles.now size.width size.height at (take at filled.now) }
     ensures sound { (t : ℕ) → mask_bit result t ≡ 1 → spec.IsClosing rounds.now.tables.tiles.now size.width size.height (take at filled.now) t }
-    ensures complete { (g : List ℕ) → spec.IsSought rounds.now.tables.tiles.now size.width size.height g
-        → take at g ≡ take at filled.now → mask_bit result (slice_index g at) ≡ 1 }
+    ensures complete { AllBegun at filled.now (spec.IsSought rounds.now.tables.tiles.now size.width size.height) (spec.HasNext at result) }
 {
     let mut mask = beside_left(rounds, size, filled, at);
     and_into(&mut mask, &beside_below(rounds, size, filled, at));
@@ -150,7 +150,7 @@ fn least_tile(rounds: &Rounds<'_>, filled: &[u16], at: usize) -> usize
     requires within { at < length filled.now }
     requires tiles { (k : ℕ) → k < at → slice_index filled.now k < length rounds.now.tables.tiles.now }
     ensures low { result ≤ length rounds.now.tables.tiles.now }
-    ensures none_below { (g : List ℕ) → ((k : ℕ) → k < length filled.now → slice_index g 0 ≤ slice_index g k) → take at g ≡ take at filled.now → slice_index g at < result → ⊥ }
+    ensures none_below { AllBegun at filled.now (BeginsLeast (length filled.now)) (λ g. slice_index g at < result → ⊥) }
 {
     if at == 0 { 0 } else { usize::from(filled[0]) }
 }
@@ -166,14 +166,13 @@ fn search(rounds: &Rounds<'_>, size: Size, filled: &mut [u16], at: usize, budget
     requires begun { spec.IsClosed rounds.now.tables.tiles.now size.width size.height at (take at filled.old) }
     ensures same { take at filled.new ≡ take at filled.old }
     ensures wrap { result ≡ Found.Wrap → spec.IsClosed rounds.now.tables.tiles.now size.width size.height (size.width * size.height) filled.new }
-    ensures least { result ≡ Found.Wrap → (g : List ℕ) → spec.IsSought rounds.now.tables.tiles.now size.width size.height g
-        → take at g ≡ take at filled.old → (filled.new ≡ g) ⊎ IsBefore filled.new g }
-    ensures nothing { (left : ℕ) → result ≡ Found.Nothing left → (g : List ℕ) → spec.IsSought rounds.now.tables.tiles.now size.width size.height g
-        → take at g ≡ take at filled.old → ⊥ }
+    ensures least { result ≡ Found.Wrap → LeadsBegun at filled.old (spec.IsSought rounds.now.tables.tiles.now size.width size.height) filled.new }
+    ensures nothing { (left : ℕ) → result ≡ Found.Nothing left
+        → NoneBegun at filled.old (spec.IsSought rounds.now.tables.tiles.now size.width size.height) }
     ensures paid { (left : ℕ) → result ≡ Found.Nothing left
-        → budget ≤ left + trial.trials_from rounds.now.tables.tiles.now (spec.open_window size.width size.height) (size.width * size.height - at) (take at filled.old) }
+        → budget ≤ left + spec.trials_left rounds.now.tables.tiles.now size.width size.height at filled.old }
     ensures spent { result ≡ Found.Spent
-        → budget < trial.trials_from rounds.now.tables.tiles.now (spec.open_window size.width size.height) (size.width * size.height - at) (take at filled.old) }
+        → budget < spec.trials_left rounds.now.tables.tiles.now size.width size.height at filled.old }
 {
     if budget == 0 {
         return Found::Spent;
@@ -204,7 +203,7 @@ pub fn find(rounds: &Rounds<'_>, size: Size, filled: &mut [u16], budget: u64) ->
     requires low_height { size.height ≤ MAX_LIMIT }
     requires long { length filled.old ≡ size.width * size.height }
     ensures long { length filled.new ≡ length filled.old }
-    ensures wrap { result ≡ Found.Wrap → IsLeastOf rounds.now.tables.tiles.now size.width size.height (record { width = size.width; height = size.height; cells = filled.new }) }
+    ensures wrap { result ≡ Found.Wrap → IsLeastOf rounds.now.tables.tiles.now size.width size.height (sized size filled.new) }
     ensures nothing { (left : ℕ) → result ≡ Found.Nothing left → HasNoWrapOf rounds.now.tables.tiles.now size.width size.height }
     ensures spent { result ≡ Found.Spent → budget < spec.wrap_trials rounds.now.tables.tiles.now size.width size.height }
 {
