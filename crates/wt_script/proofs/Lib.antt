@@ -4,3 +4,4 @@ pub mod Raws
 pub mod Axes
 pub mod Follow
 pub mod Colons
+pub mod Bound

@@ -61,7 +61,7 @@ pub fn seeds_at(alloc: Global, place: Place<'_>) -> Result<(Word, Place<'_>), Te
 #[tactic(auto, using(wt_line::proofs::Ended::goes_on_is_wrong), unfolding(crate::specs::Forms::census_form, wt_text::specs::Readers::whole, wt_text::specs::Readers::value_behind, wt_text::specs::Readers::both))]
 fn census_row(line: &[u8]) -> Result<(&[u8], u32, u16), LineFault>
     ensures read { ReadsLine (λ x. (x.0.now, (x.1, x.2))) result (census_form (tokens line.now)) }
-    ensures within { IfOk result (λ x. (x.1 ≤ 4096)) }
+    ensures within { IfOk result (λ x. (x.1 ≤ MAX_TURNS)) }
 {
     let rest = word("census", Rest::new(line))?;
     let (chain, rest) = name(rest)?;

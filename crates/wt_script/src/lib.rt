@@ -23,7 +23,7 @@ mod torus;
 mod windows;
 mod word;
 
-pub use laws::pieces_follow;
+pub use laws::{bound_names_are_well_formed, pieces_follow};
 pub use script::parse_script;
 pub use torus::{RawBox, RawRegion, RawTorus, torus_at};
 pub use word::{Command, Word};

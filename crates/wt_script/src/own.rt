@@ -59,7 +59,7 @@ pub fn set_at(alloc: Global, place: Place<'_>) -> Result<(Word, Place<'_>), Text
 #[tactic(auto, using(wt_line::proofs::Ended::goes_on_is_wrong), unfolding(crate::specs::Forms::pattern_form, wt_text::specs::Readers::whole, wt_text::specs::Readers::value_behind, wt_text::specs::Readers::both))]
 fn pattern_row(line: &[u8]) -> Result<(&[u8], &[u8], u32, u32), LineFault>
     ensures read { ReadsLine (λ x. (x.0.now, (x.1.now, (x.2, x.3)))) result (pattern_form (tokens line.now)) }
-    ensures within { IfOk result (λ x. (1 ≤ x.2) × (x.2 ≤ MAX_SIDE) × (1 ≤ x.3) × (x.3 ≤ 4096)) }
+    ensures within { IfOk result (λ x. (1 ≤ x.2) × (x.2 ≤ MAX_SIDE) × (1 ≤ x.3) × (x.3 ≤ MAX_SIDE)) }
 {
     let rest = word("pattern", Rest::new(line))?;
     let (bound, rest) = name(rest)?;
@@ -73,7 +73,7 @@ fn pattern_row(line: &[u8]) -> Result<(&[u8], &[u8], u32, u32), LineFault>
 #[tactic(auto, unfolding(wt_text::specs::Readers::one_line))]
 fn pattern_head(place: Place<'_>) -> Result<((&[u8], &[u8], u32, u32), Place<'_>), TextFault>
     ensures read { ReadsText (λ x. ((x.0.0.now, (x.0.1.now, (x.0.2, x.0.3))), lines_left x.1)) result (one_line pattern_form (lines_left place.entry)) }
-    ensures within { IfOk result (λ x. (1 ≤ x.0.2) × (x.0.2 ≤ MAX_SIDE) × (1 ≤ x.0.3) × (x.0.3 ≤ 4096)) }
+    ensures within { IfOk result (λ x. (1 ≤ x.0.2) × (x.0.2 ≤ MAX_SIDE) × (1 ≤ x.0.3) × (x.0.3 ≤ MAX_SIDE)) }
 {
     let (line, next) = next_line(place)?;
     let head = placed(pattern_row(line), place.number)?;
