@@ -85,3 +85,5 @@ pub mod Runs
 pub mod Values
 -- Budgets that are enough for a command.
 pub mod Enough
+-- What the commands of a script are about.
+pub mod Subjects

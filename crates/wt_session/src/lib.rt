@@ -1,6 +1,7 @@
 //! Scripts: a session binds names to tile sets, patterns, chains and partitions, and answers the commands of a script one after the other.
 #![tactic(auto)]
 
+mod answers;
 mod colours;
 mod json;
 mod json_chains;
@@ -19,6 +20,7 @@ mod rows;
 mod script;
 mod session;
 mod spent;
+mod subject;
 #[cfg(test)]
 mod tests;
 mod texts;
