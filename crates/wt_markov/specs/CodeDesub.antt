@@ -1,10 +1,11 @@
 -- What taking a code apart answers.
-use Rattle.std.specs.Prelude.{◌≡◌, ℕ, Option, None, Some, option_map, if◌then◌else◌}
+use Rattle.std.specs.Prelude.{◌≡◌, ◌⊎◌, ℕ, Result, MatchResult, Option, None, Some, option_map, if◌then◌else◌}
 use Rattle.wt_plane.specs.HalfPlanes.{Spot}
 use Rattle.wt_grid.specs.Grid.{Grid}
 use Rattle.wt_grid.specs.First.{or_else}
 use Rattle.wt_pattern.specs.Patterns.{IsPattern}
 use Rattle.wt_torus.specs.declared.partition.Partition.{Partition}
+use Rattle.wt_torus.specs.declared.coded.CodeFault.{CodeFault}
 use Rattle.wt_torus.specs.Codes.{code_fault, code_of}
 use Rattle.wt_step.specs.declared.raw.RawStep.{RawStep}
 use Rattle.wt_step.specs.declared.raw.RawLink.TheVariants.{Marker}
@@ -36,3 +37,7 @@ pub record IsTakenApart (s : RawStep) (g : Grid) (c : Coarse) : Type 0 where
   pub valid : IsPattern s.coarse.tiles c.pattern
   pub low_cut : c.low_cut ≡ cuts_low (Marker s) g
   pub high_cut : c.high_cut ≡ cuts_high (Marker s) g
+
+-- a call fails exactly where the code of a point has a fault, and by that one, or where memory runs out
+abbrev pub FailsByCode : {T : Type 0} → Result T CodeDesubFault → Option CodeFault → Type 0
+FailsByCode result why = MatchResult result (λ _. why ≡ None) (λ e. (option_map fault.Code why ≡ Some e) ⊎ (e ≡ fault.OutOfMemory))

@@ -1,5 +1,5 @@
 -- Why a partition isn't one that codes valid patterns, in the order of the causes.
-use Rattle.std.specs.Prelude.{◌≡◌, ℕ, zero, suc, ◌+◌, ◌<◌, nat_lt, Bool, true, false, ◌&&◌, not, List, [], length, slice_index_or, Option, None, Some, if◌then◌else◌}
+use Rattle.std.specs.Prelude.{◌≡◌, ℕ, zero, suc, ◌+◌, ◌<◌, ◌≤◌, nat_lt, Bool, true, false, ◌&&◌, not, List, [], length, slice_index_or, Option, None, Some, if◌then◌else◌}
 use Rattle.std.specs.List.{list_all}
 use Rattle.wt_grid.specs.declared.axis.Axis.{Axis}
 use Rattle.wt_grid.specs.declared.axis.Axis.TheVariants.{One, Two}
@@ -83,3 +83,16 @@ pairs_from axis p i (suc n) = followers axis p i 0 (length p.regions) + pairs_fr
 -- all pairs of regions that can follow each other along the axis
 abbrev pub pair_count : Axis → Partition → ℕ
 pair_count axis p = pairs_from axis p 0 (length p.regions)
+
+-- region i can be followed by region j along the axis
+abbrev pub can_follow_at : Axis → Partition → ℕ → ℕ → Bool
+can_follow_at axis p i j = can_follow axis p.torus (region_at p i) (region_at p j)
+
+-- region i has no fault with a region that may follow it, and n can follow it
+abbrev pub CountsFollowers : List Tile → Axis → Partition → ℕ → ℕ → Type 0
+CountsFollowers ts axis p i n =
+    (pair_row ts axis p i ≡ None) × (n ≡ followers axis p i 0 (length p.regions)) × (n ≤ length p.regions)
+
+-- the pairs along axis 1, and those along axis 2
+abbrev pub pair_counts : Partition → ℕ × ℕ
+pair_counts p = (pair_count One p, pair_count Two p)

@@ -14,3 +14,5 @@ pub mod WindowFaults
 pub mod Turns
 -- What taking a code apart answers.
 pub mod CodeDesub
+-- What the laws on codes say: when a step takes the code of a point apart, and what it makes of it.
+pub mod Law

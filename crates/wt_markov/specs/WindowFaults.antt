@@ -41,12 +41,17 @@ edges_fit axis r =
 abbrev pub EdgesFit : RawStep → Partition → Type 0
 EdgesFit s p = 0 < length p.regions → edges_fit s.axis p.torus ≡ true
 
--- what is wrong with the label of region i: it lies beyond the window and has no marker, or inside it and has one
+-- what is wrong with the label of a region: it lies beyond the window and has no marker, or inside it and has one
+abbrev pub label_fault : ℕ → Bool → Bool → Bool → Option WindowFault
+label_fault region beyond inside marked =
+    if beyond && not marked then Some (fault.Outside region)
+    else if inside && marked then Some (fault.Inside region)
+    else None
+
+-- what is wrong with that of region i
 abbrev pub label_fault_at : RawStep → Partition → ℕ → Option WindowFault
 label_fault_at s p i =
-    if is_beyond s.axis p.torus (region_at p i) && not (is_marker s (region_at p i).label) then Some (fault.Outside i)
-    else if is_inside s.axis p.torus (region_at p i) && is_marker s (region_at p i).label then Some (fault.Inside i)
-    else None
+    label_fault i (is_beyond s.axis p.torus (region_at p i)) (is_inside s.axis p.torus (region_at p i)) (is_marker s (region_at p i).label)
 
 -- the fault of region i
 abbrev pub window_fault_at : RawStep → Partition → ℕ → Option WindowFault

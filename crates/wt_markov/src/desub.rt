@@ -1,12 +1,13 @@
 //! Codes of points taken apart by a good step.
-ghost use Rattle.std.specs.Prelude.{◌≡◌, ◌≤◌, ◌⊎◌, None, Some, option_map, IfOk, MatchResult};
+ghost use Rattle.std.specs.Prelude.{◌≡◌, ◌≤◌, None, IfOk};
 ghost use Rattle.wt_pattern.specs.Patterns.{IsPattern};
 ghost use Rattle.wt_torus.specs.Codes.{IsCode, code_fault, code_of};
 ghost use Rattle.wt_markov.specs.Agree.{Agrees};
-ghost use Rattle.wt_markov.specs.CodeDesub.{margin_fault, code_desub_fault, IsTakenApart};
+ghost use Rattle.wt_markov.specs.CodeDesub.{margin_fault, code_desub_fault, IsTakenApart, FailsByCode};
 ghost use Rattle.wt_markov.specs.CodeDesub as spec;
 ghost use Rattle.wt_markov.specs.Faults.{markov_fault};
 ghost use Rattle.wt_markov.specs.WindowFaults.{window_fault};
+ghost use Rattle.wt_grid.specs.Answers.{FailsByOr};
 
 use crate::CodeDesubFault;
 use std::alloc::Global;
@@ -27,9 +28,7 @@ fn coded(
     requires high { (1 ≤ h) × (h ≤ MAX_SIDE) }
     ensures letters { IfOk result (λ g. IsCode p.now z.now g) }
     ensures code { IfOk result (λ g. g ≡ code_of p.now z.now w h) }
-    ensures fault { MatchResult result
-        (λ _. code_fault p.now z.now w h ≡ None)
-        (λ e. (option_map CodeDesubFault.Code (code_fault p.now z.now w h) ≡ Some e) ⊎ (e ≡ CodeDesubFault.OutOfMemory)) }
+    ensures fault { FailsByCode result (code_fault p.now z.now w h) }
 {
     match code(alloc, p, z, w, h) {
         Ok(g) => Ok(g),
@@ -50,9 +49,7 @@ fn refusal(fault: DesubFault) -> CodeDesubFault
 fn taken_apart(alloc: Global, step: StepRef<'_>, g: &Pattern) -> Result<Coarse, CodeDesubFault>
     requires { IsPattern step.raw.now.fine.tiles g.now }
     ensures made { IfOk result (λ c. IsTakenApart step.entry.raw.now g.now c) }
-    ensures fault { MatchResult result
-        (λ _. margin_fault step.entry.raw.now g.now ≡ None)
-        (λ e. (margin_fault step.entry.raw.now g.now ≡ Some e) ⊎ (e ≡ CodeDesubFault.OutOfMemory)) }
+    ensures fault { FailsByOr result (margin_fault step.entry.raw.now g.now) CodeDesubFault.OutOfMemory }
 {
     match desubstitute(alloc, LinkRef::Marker(step), g) {
         Ok(coarse) => Ok(coarse),
@@ -79,9 +76,7 @@ pub fn code_desub(
     ensures code { IfOk result (λ _. IsCode p.now z.now (code_of p.now z.now w h)) }
     ensures made { IfOk result (λ c. IsTakenApart step.entry.raw.now (code_of p.now z.now w h) c) }
     ensures agrees { IfOk result (λ c. Agrees step.entry.raw.now p.now z.now (code_of p.now z.now w h) c.pattern) }
-    ensures fault { MatchResult result
-        (λ _. code_desub_fault step.entry.raw.now p.now z.now w h ≡ None)
-        (λ e. (code_desub_fault step.entry.raw.now p.now z.now w h ≡ Some e) ⊎ (e ≡ CodeDesubFault.OutOfMemory)) }
+    ensures fault { FailsByOr result (code_desub_fault step.entry.raw.now p.now z.now w h) CodeDesubFault.OutOfMemory }
 {
     sound(p);
     z.point();

@@ -1,8 +1,9 @@
 //! The pairs of regions that can follow each other, and the first whose labels don't match.
-ghost use Rattle.std.specs.Prelude.{◌≡◌, ◌<◌, ◌≤◌, None, Some, true, length, MatchResult};
+ghost use Rattle.std.specs.Prelude.{◌≡◌, ◌<◌, ◌≤◌, Some, true, length, MatchResult};
 ghost use Rattle.wt_markov.specs.Faults as faults;
-ghost use Rattle.wt_markov.specs.Follow as follow;
 ghost use Rattle.wt_markov.specs.Turns.{IsTurns};
+ghost use Rattle.wt_grid.specs.Answers.{GivesUnless};
+ghost use Rattle.wt_markov.specs.Faults.{CountsFollowers};
 
 use crate::MarkovFault;
 use crate::turns::{Turns, can_follow, moved_fit, turns_on};
@@ -19,9 +20,7 @@ pub(crate) fn region(p: &Partition, i: usize) -> &Labelled
 }
 
 fn answer(axis: Axis, i: usize, j: usize, follows: bool, matched: bool) -> Result<bool, MarkovFault>
-    ensures { MatchResult result
-        (λ b. (faults.unmatched axis i j follows matched ≡ None) × (b ≡ follows))
-        (λ e. faults.unmatched axis i j follows matched ≡ Some e) }
+    ensures { GivesUnless result follows (faults.unmatched axis i j follows matched) }
 {
     if follows && !matched {
         Err(MarkovFault::Pair { axis, i, j })
@@ -43,10 +42,7 @@ fn pair_at(
     requires fit { faults.zones_fit axis p.now.torus ≡ true }
     requires i { i < length p.now.regions }
     requires j { j < length p.now.regions }
-    ensures { MatchResult result
-        (λ b. (faults.pair_fault_at tiles.now axis p.now i j ≡ None)
-        × (b ≡ follow.can_follow axis p.now.torus (faults.region_at p.now i) (faults.region_at p.now j)))
-        (λ e. faults.pair_fault_at tiles.now axis p.now i j ≡ Some e) }
+    ensures { GivesUnless result (faults.can_follow_at axis p.now i j) (faults.pair_fault_at tiles.now axis p.now i j) }
 {
     let first = region(p, i);
     let second = region(p, j);
@@ -71,9 +67,7 @@ fn row_of(
     requires fit { faults.zones_fit axis p.now.torus ≡ true }
     requires i { i < length p.now.regions }
     ensures { MatchResult result
-        (λ n. (faults.pair_row tiles.now axis p.now i ≡ None)
-        × (n ≡ faults.followers axis p.now i 0 (length p.now.regions)) × (n ≤ length p.now.regions))
-        (λ e. faults.pair_row tiles.now axis p.now i ≡ Some e) }
+        (CountsFollowers tiles.now axis p.now i) (λ e. faults.pair_row tiles.now axis p.now i ≡ Some e) }
 {
     let mut count = 0;
     for j in 0..p.regions.as_slice().len() {
@@ -90,9 +84,7 @@ fn pairs_in(tiles: &[Tile], axis: Axis, turns: &Turns, p: &Partition) -> Result<
     requires turns { IsTurns axis p.now.torus turns.now }
     requires fit { faults.zones_fit axis p.now.torus ≡ true }
     requires few { length p.now.regions ≤ MAX_REGIONS }
-    ensures { MatchResult result
-        (λ n. (faults.pair_fault tiles.now axis p.now ≡ None) × (n ≡ faults.pair_count axis p.now))
-        (λ e. faults.pair_fault tiles.now axis p.now ≡ Some e) }
+    ensures { GivesUnless result (faults.pair_count axis p.now) (faults.pair_fault tiles.now axis p.now) }
 {
     let mut count = 0;
     for i in 0..p.regions.as_slice().len() {
@@ -105,9 +97,7 @@ fn pairs_in(tiles: &[Tile], axis: Axis, turns: &Turns, p: &Partition) -> Result<
 #[tactic(auto, using(crate::proofs::Counted::unfit, crate::proofs::Counted::no_regions))]
 pub(crate) fn pairs_along(tiles: &[Tile], axis: Axis, p: &Partition) -> Result<usize, MarkovFault>
     requires few { length p.now.regions ≤ MAX_REGIONS }
-    ensures { MatchResult result
-        (λ n. (faults.pair_fault tiles.now axis p.now ≡ None) × (n ≡ faults.pair_count axis p.now))
-        (λ e. faults.pair_fault tiles.now axis p.now ≡ Some e) }
+    ensures { GivesUnless result (faults.pair_count axis p.now) (faults.pair_fault tiles.now axis p.now) }
 {
     match turns_on(axis, &p.torus) {
         Ok(turns) => pairs_in(tiles, axis, &turns, p),

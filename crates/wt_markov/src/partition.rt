@@ -1,7 +1,8 @@
 //! Whether the codes of a partition are valid patterns over a tile set.
-ghost use Rattle.std.specs.Prelude.{◌≡◌, ◌<◌, ◌≤◌, None, Some, length, IfOk, MatchResult};
+ghost use Rattle.std.specs.Prelude.{◌≡◌, ◌<◌, ◌≤◌, None, Some, length, IfOk};
 ghost use Rattle.wt_markov.specs.Faults as faults;
 ghost use Rattle.wt_markov.specs.Markov as words;
+ghost use Rattle.wt_grid.specs.Answers.{GivesUnless};
 
 use crate::MarkovFault;
 use crate::pairs::{pairs_along, region};
@@ -35,10 +36,7 @@ fn tile_fault(tiles: &[Tile], p: &Partition) -> Option<MarkovFault>
 #[tactic(auto, using(crate::proofs::Faultless::markov_without), unfolding(crate::specs::Faults::markov_fault))]
 fn markov_of(tiles: &[Tile], p: &Partition) -> Result<(usize, usize), MarkovFault>
     requires few { length p.now.regions ≤ MAX_REGIONS }
-    ensures { MatchResult result
-        (λ n. (faults.markov_fault tiles.now p.now ≡ None)
-        × (n ≡ (faults.pair_count Axis.One p.now, faults.pair_count Axis.Two p.now)))
-        (λ e. faults.markov_fault tiles.now p.now ≡ Some e) }
+    ensures { GivesUnless result (faults.pair_counts p.now) (faults.markov_fault tiles.now p.now) }
 {
     if let Some(fault) = tile_fault(tiles, p) {
         return Err(fault);
@@ -55,10 +53,7 @@ fn markov_of(tiles: &[Tile], p: &Partition) -> Result<(usize, usize), MarkovFaul
 #[tactic(auto, using(crate::proofs::Faultless::markov_without))]
 pub fn markov(set: SetRef<'_>, p: &Partition) -> Result<(usize, usize), MarkovFault>
     requires few { length p.now.regions ≤ MAX_REGIONS }
-    ensures exact { MatchResult result
-        (λ n. (faults.markov_fault set.entry.list.now.tiles p.now ≡ None)
-        × (n ≡ (faults.pair_count Axis.One p.now, faults.pair_count Axis.Two p.now)))
-        (λ e. faults.markov_fault set.entry.list.now.tiles p.now ≡ Some e) }
+    ensures exact { GivesUnless result (faults.pair_counts p.now) (faults.markov_fault set.entry.list.now.tiles p.now) }
     ensures holds { IfOk result (λ _. words.Markov set.entry.list.now.tiles p.now) }
 {
     markov_of(set.list.tiles.as_slice(), p)

@@ -1,10 +1,9 @@
 //! The two zones of an axis, and whether a region can be followed by another.
-ghost use Rattle.std.specs.Prelude.{◌≡◌, ◌++◌, ◌||◌, ◌&&◌, true, false, MatchResult};
+ghost use Rattle.std.specs.Prelude.{◌≡◌, ◌||◌, ◌&&◌, true, false, MatchResult};
 ghost use Rattle.std.specs.List.{list_all};
-ghost use Rattle.wt_induce.specs.Faults.{is_small_half, moved_back};
-ghost use Rattle.wt_markov.specs.Follow as follow;
+ghost use Rattle.wt_induce.specs.Faults.{is_small_half};
 ghost use Rattle.wt_markov.specs.Faults.{zones_fit};
-ghost use Rattle.wt_markov.specs.Turns.{IsTurns};
+ghost use Rattle.wt_markov.specs.Turns.{IsTurns, planes_on, planes_back, follows_on, follows_back};
 
 use crate::boxes::box_of;
 use crate::meets::meets;
@@ -55,8 +54,7 @@ pub(crate) fn turns_on(axis: Axis, torus: &Torus) -> Result<Turns, TooLarge>
 
 /// Whether the half-planes of region q moved back, by the move of either zone, are within the limit.
 pub(crate) fn moved_fit(turns: &Turns, q: &Labelled) -> bool
-    ensures { result ≡ (list_all is_small_half (moved_back turns.now.axis turns.now.on q.now.region.planes)
-        && list_all is_small_half (moved_back turns.now.axis turns.now.back q.now.region.planes)) }
+    ensures { result ≡ (list_all is_small_half (planes_on turns.now q.now) && list_all is_small_half (planes_back turns.now q.now)) }
 {
     let planes = q.region.planes.as_slice();
     all_fit(turns.axis, turns.on, planes) && all_fit(turns.axis, turns.back, planes)
@@ -64,12 +62,9 @@ pub(crate) fn moved_fit(turns: &Turns, q: &Labelled) -> bool
 
 /// Whether region p can be followed by region q.
 pub(crate) fn can_follow(turns: &Turns, p: &Labelled, q: &Labelled) -> bool
-    requires on { list_all is_small_half (moved_back turns.now.axis turns.now.on q.now.region.planes) ≡ true }
-    requires back { list_all is_small_half (moved_back turns.now.axis turns.now.back q.now.region.planes) ≡ true }
-    ensures { result ≡ (follow.meets (turns.now.low
-        ++ (p.now.region.planes ++ moved_back turns.now.axis turns.now.on q.now.region.planes))
-        || follow.meets (turns.now.high
-        ++ (p.now.region.planes ++ moved_back turns.now.axis turns.now.back q.now.region.planes))) }
+    requires on { list_all is_small_half (planes_on turns.now q.now) ≡ true }
+    requires back { list_all is_small_half (planes_back turns.now q.now) ≡ true }
+    ensures { result ≡ (follows_on turns.now p.now q.now || follows_back turns.now p.now q.now) }
 {
     let first = p.region.planes.as_slice();
     let second = q.region.planes.as_slice();

@@ -1,15 +1,14 @@
 //! Whether the markers of a step are the labels beyond the window of its axis.
-ghost use Rattle.std.specs.Prelude.{◌≡◌, ◌<◌, ◌&&◌, ◌++◌, not, true, false, nat_eq, None, Some, if◌then◌else◌, length, IfOk, MatchResult};
+ghost use Rattle.std.specs.Prelude.{◌≡◌, ◌<◌, ◌&&◌, ◌++◌, true, false, nat_eq, None, Some, length, IfOk};
 ghost use Rattle.std.specs.List.{list_any};
-ghost use Rattle.wt_grid.specs.declared.axis.Side.TheVariants.{After};
 ghost use Rattle.wt_grid.specs.First.{or_else};
 ghost use Rattle.wt_grid.specs.Order.{first_in};
-ghost use Rattle.wt_induce.specs.Law as law;
 ghost use Rattle.wt_step.specs.Words as step_words;
 ghost use Rattle.wt_markov.specs.Follow as follow;
 ghost use Rattle.wt_markov.specs.Turns.{IsEdges};
-ghost use Rattle.wt_markov.specs.Window.{MarkerWindow};
 ghost use Rattle.wt_markov.specs.WindowFaults as faults;
+ghost use Rattle.wt_grid.specs.Answers.{FailsBy};
+ghost use Rattle.wt_markov.specs.Law.{MarksWindow};
 
 use crate::WindowFault;
 use crate::edges::{Edges, edges_on, meets_side};
@@ -46,8 +45,7 @@ fn is_marker(raw: &RawStep, a: u16) -> bool
 }
 
 fn label_fault(region: usize, beyond: bool, inside: bool, marked: bool) -> Option<WindowFault>
-    ensures { result ≡ (if beyond && not marked then Some (WindowFault.Outside region)
-        else if inside && marked then Some (WindowFault.Inside region) else None) }
+    ensures { result ≡ faults.label_fault region beyond inside marked }
 {
     if beyond && !marked {
         Some(WindowFault::Outside { region })
@@ -189,11 +187,8 @@ fn window_fault(raw: &RawStep, p: &Partition) -> Option<WindowFault>
 /// window has a number out of limit, `Outside` or `Inside`; then `Nowhere` with the first marker that labels no region
 /// beyond the window. A region that meets neither side is asked nothing. Takes no memory.
 pub fn marker_window(step: StepRef<'_>, p: &Partition) -> Result<(), WindowFault>
-    ensures exact { MatchResult result
-        (λ _. faults.window_fault step.entry.raw.now p.now ≡ None)
-        (λ e. faults.window_fault step.entry.raw.now p.now ≡ Some e) }
-    ensures holds { IfOk result (λ _. (step.entry.raw.now.side ≡ After)
-        × (law.is_half step.entry.raw.now.axis p.now.torus ≡ false) × MarkerWindow step.entry.raw.now p.now) }
+    ensures exact { FailsBy result (faults.window_fault step.entry.raw.now p.now) }
+    ensures holds { IfOk result (λ _. MarksWindow step.entry.raw.now p.now) }
 {
     match window_fault(step.raw, p) {
         None => Ok(()),
