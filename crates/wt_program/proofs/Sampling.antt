@@ -1,18 +1,24 @@
 -- What is known of a chain that is found for a sample.
-use Rattle.std.proofs.Common.{arith, ◌≡◌, ◌⊎◌, ◌≤◌, ◌<◌, ◌+◌, ◌-◌, ℕ, List, [], ◌∷◌, length, slice_get, Bool, true, refl, sym, ap, subst, inl, inr, ◌∙◌}
+use Rattle.std.proofs.Common.{arith, ◌≡◌, ◌⊎◌, ◌≤◌, ◌<◌, ◌+◌, ◌-◌, ◌*◌, ◌/◌, ◌%◌, get_or, mul_comm, ℕ, List, [], ◌∷◌, length, slice_get, Bool, true, refl, sym, ap, subst, inl, inr, ◌∙◌}
 use Rattle.std.specs.Prelude.{Option, None, Some, Result, Ok, Err, IfOk, nat_le, ◌&&◌, option_map, if◌then◌else◌}
+use Rattle.std.proofs.lemmas.Bool.{cases_lt}
 use Rattle.std.proofs.lemmas.Bool.Decides.{nat_tests}
+use Rattle.std.proofs.lemmas.List.{get_or_past}
+use Rattle.std.proofs.lemmas.Nat.{div-add-mod'}
+use Rattle.std.proofs.Math.Nat.{mod-lt, div-lt_iff_lt-mul}
 use Rattle.wt_grid.specs.declared.axis.Axis.{Axis}
 use Rattle.wt_grid.specs.declared.axis.Axis.TheVariants.{One, Two}
 use Rattle.wt_grid.specs.First.{or_else}
-use Rattle.wt_grid.specs.Grid.{Grid, along, across}
-use Rattle.wt_grid.specs.Parts.{core}
+use Rattle.wt_grid.specs.Grid.{Grid, IsGrid, along, across}
+use Rattle.wt_grid.specs.Parts.{AllBelow, core}
 use Rattle.wt_grid.specs.Limits.{is_side}
 use Rattle.wt_tile.specs.declared.tile.TileList.{TileList}
 use Rattle.wt_tile.specs.Sets.{set_fault}
+use Rattle.wt_tile.proofs.Sizes.{few_tiles}
 use Rattle.wt_pattern.specs.declared.fault.Fault.{Fault}
-use Rattle.wt_pattern.specs.Validity.{first_fault, first_stranger}
-use Rattle.wt_pattern.proofs.FaultLaws.{no_stranger, no_fault}
+use Rattle.wt_pattern.specs.Validity.{first_fault}
+use Rattle.wt_pattern.specs.Patterns.{IsPattern}
+use Rattle.wt_pattern.proofs.FaultLaws.{no_fault}
 use Rattle.wt_step.specs.declared.raw.RawStep.{RawStep}
 use Rattle.wt_step.specs.declared.raw.RawLink.{RawLink}
 use Rattle.wt_step.specs.declared.raw.RawLink.TheVariants.{Marker, Restrict}
@@ -120,13 +126,33 @@ first_link n set c s l e =
     let h : Some s.loop.first ≡ Some l = sym (ap (λ (links : List RawLink). slice_get links 0) s.loop.begins) ∙ e in
     cc h
 
-pub step_tiles : (n : ℕ) (set : TileList) (c : RawChain) (l : RawLink) (p : Grid) → IsSampling n set c → slice_get c.steps 0 ≡ Some l → p ≡ pick_of c n n
-    → first_stranger (length (fine_of l).tiles) p ≡ None
-step_tiles n set c l p s e same =
+pub step_pattern : (n : ℕ) (set : TileList) (c : RawChain) (l : RawLink) (p : Grid) → IsSampling n set c → slice_get c.steps 0 ≡ Some l → p ≡ pick_of c n n
+    → IsPattern (fine_of l).tiles p
+step_pattern n set c l p s e same =
     let one : fine_of l ≡ set = sym (ap fine_of (first_link n set c s l e)) ∙ s.fine in
-    let none = no_stranger (length set.tiles) (pick_of c n n) s.valid.pattern.1 in
-    subst (λ (g : Grid). first_stranger (length (fine_of l).tiles) g ≡ None) (sym same)
-    (subst (λ (t : TileList). first_stranger (length t.tiles) (pick_of c n n) ≡ None) (sym one) none)
+    subst (λ (g : Grid). IsPattern (fine_of l).tiles g) (sym same) (subst (λ (t : TileList). IsPattern t.tiles (pick_of c n n)) (sym one) s.valid.pattern)
+
+-- each cell of a rectangle in which all are below a number, and 0 past the last
+cells_below : (m : ℕ) (g : Grid) → 0 < m → IsGrid g → AllBelow m g → (k : ℕ) → get_or g.cells k 0 < m
+cells_below m g some grid all k = elim (cases_lt k (length g.cells)) [
+  | inl lt ↦
+      let wide = grid.wide in
+      let whole : length g.cells ≡ g.width * g.height = grid.whole in
+      let x : k % g.width < g.width = mod-lt k (omega arith) in
+      let y : k / g.width < g.height = (div-lt_iff_lt-mul (omega arith)).1 (let flip : g.height * g.width ≡ g.width * g.height = mul_comm g.height g.width in omega (arith, lt, whole, flip)) in
+      let e : k / g.width * g.width + k % g.width ≡ k = div-add-mod' k g.width in
+      subst (λ (i : ℕ). get_or g.cells i 0 < m) e (all (k % g.width) (k / g.width) x y)
+  | inr le ↦ rw (get_or_past g.cells k 0 le) some
+]
+
+-- the cells of the pick are numbers of at most 256 tiles
+pub step_cells : (n : ℕ) (set : TileList) (c : RawChain) (p : Grid) → IsSampling n set c → set_fault set ≡ None → p ≡ pick_of c n n → (k : ℕ) → get_or p.cells k 0 < 256
+step_cells n set c p s good same k =
+    let size = few_tiles set good in
+    let some = size.0 in
+    let few = size.1 in
+    let here : get_or (pick_of c n n).cells k 0 < length set.tiles = cells_below (length set.tiles) (pick_of c n n) (omega arith) s.valid.pattern.0 s.valid.pattern.1 k in
+    subst (λ (g : Grid). get_or g.cells k 0 < 256) (sym same) (omega arith)
 
 pub step_apart : (n : ℕ) (set : TileList) (c : RawChain) (l : RawLink) (p : Grid) → IsSampling n set c → slice_get c.steps 0 ≡ Some l → p ≡ pick_of c n n
     → desub_fault l p ≡ None

@@ -3,7 +3,7 @@ ghost use Rattle.std.specs.Prelude.{◌≡◌, ◌+◌, ◌^◌, ◌<◌, ◌≤
 ghost use Rattle.std.specs.Fmt.{decimal};
 ghost use Rattle.wt_text.specs.Words.{value_from};
 ghost use Rattle.wt_write.specs.Behind.{behind_spaces};
-ghost use Rattle.wt_pattern.specs.Validity.{first_stranger};
+ghost use Rattle.wt_pattern.specs.Patterns.{IsPattern};
 ghost use Rattle.wt_step.specs.Links.{fine_of};
 ghost use Rattle.wt_step.specs.Views.{link_of};
 ghost use Rattle.wt_step.specs.Coarse.{IsDesubstitution, desub_fault};
@@ -27,7 +27,7 @@ use wt_pattern::{Pattern, period_fault};
 use wt_search::{SearchEnd, search};
 use wt_seq::Seq;
 use wt_session::{CommandFault, end_fault};
-use wt_step::{DesubFault, LinkRef, desubstitute};
+use wt_step::{DesubFault, LinkRef, desubstitute_valid};
 use wt_tile::{Axis, SetRef, Side};
 use wt_write::{end_line, number_behind, push_number, push_word};
 
@@ -88,17 +88,16 @@ fn period_count(p: &Pattern) -> usize
 
 /// Counts a tile once more.
 fn count_one(counts: &mut [usize; MAX_TILES], tile: u16)
-    requires { (u : ℕ) → u < MAX_TILES → slice_index counts.old u + 1 < 2 ^ 64 }
+    requires tile { tile < MAX_TILES }
+    requires room { (u : ℕ) → u < MAX_TILES → slice_index counts.old u + 1 < 2 ^ 64 }
     ensures { (u : ℕ) → u < MAX_TILES → slice_index counts.new u ≡ slice_index counts.old u + unit u tile }
 {
-    let at = usize::from(tile);
-    if at < MAX_TILES {
-        counts[at] += 1;
-    }
+    counts[usize::from(tile)] += 1;
 }
 
 /// How often each tile stands among these cells.
 fn count_tiles(cells: &[u16]) -> [usize; MAX_TILES]
+    requires { (k : ℕ) → slice_index cells.now k < MAX_TILES }
     ensures size { length result ≡ MAX_TILES }
     ensures each { (u : ℕ) → u < MAX_TILES → slice_index result u ≡ units u cells.now }
 {
@@ -122,14 +121,14 @@ fn picked(alloc: Global, chain: &Accepted, n: usize) -> Result<Pattern, AllocErr
     }
 }
 
-/// The coarse pattern of a pattern that a step takes apart.
+/// The coarse pattern of a valid pattern that a step takes apart.
 #[tactic(auto, using(crate::proofs::Sampling::never_fault))]
 fn taken_apart(alloc: Global, link: LinkRef<'_>, p: &Pattern) -> Result<Pattern, AllocError>
-    requires tiles { first_stranger (length (fine_of (link_of link)).tiles) p.now ≡ None }
+    requires valid { IsPattern (fine_of (link_of link)).tiles p.now }
     requires apart { desub_fault (link_of link) p.now ≡ None }
     ensures { IfOk result (IsDesubstitution (link_of link.entry) p.now) }
 {
-    match desubstitute(alloc, link, p) {
+    match desubstitute_valid(alloc, link, p) {
         Ok(coarse) => Ok(coarse.pattern),
         Err(DesubFault::OutOfMemory) => Err(AllocError),
         Err(DesubFault::NotValid(_) | DesubFault::TooSmall) => unreachable!(),
@@ -209,7 +208,8 @@ fn push_counts(out: &mut Vec<u8>, counts: &[usize]) -> Result<(), AllocError>
 
 /// Appends the line of the counts of n tiles among these cells.
 fn push_tiles(out: &mut Vec<u8>, tiles: usize, cells: &[u16]) -> Result<(), AllocError>
-    requires { tiles ≤ MAX_TILES }
+    requires few { tiles ≤ MAX_TILES }
+    requires small { (k : ℕ) → slice_index cells.now k < MAX_TILES }
     ensures { OnOk result (out.new.items ≡ out.old.items ++ counts_text (spec.tile_counts tiles cells.now)) }
 {
     let counts = count_tiles(cells);
@@ -226,7 +226,8 @@ fn sample_text(
     p: Pattern,
     coarse: &Pattern,
 ) -> Result<Vec<u8>, AllocError>
-    requires { tiles ≤ MAX_TILES }
+    requires few { tiles ≤ MAX_TILES }
+    requires small { (k : ℕ) → slice_index p.cells k < MAX_TILES }
     ensures { IfOk result (λ text. text.items ≡ spec.sample_text n end.now tiles p coarse.now) }
 {
     let mut text = Vec::new(alloc);
