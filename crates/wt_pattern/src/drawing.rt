@@ -229,9 +229,9 @@ pub fn draw(
     p: &Pattern,
     style: Style,
 ) -> Result<Vec<u8>, DrawFault>
-    ensures { MatchResult result
-        (λ text. drawing_of (option_map (λ s. s.list.now) set.entry) p.now style ≡ Some text.items)
-        (λ e. IsDrawFault (drawing_of (option_map (λ s. s.list.now) set.entry) p.now style) e) }
+    ensures { let drawing = drawing_of (option_map (λ s. s.list.now) set.entry) p.now style in MatchResult result
+        (λ text. drawing ≡ Some text.items)
+        (λ e. IsDrawFault drawing e) }
 {
     let drawn = match style {
         Style::Numbers => pattern_text(alloc, p),

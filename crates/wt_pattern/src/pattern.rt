@@ -37,9 +37,9 @@ impl Pattern {
         height: usize,
         cells: Vec<u16>,
     ) -> Result<Pattern, (Vec<u16>, ShapeFault)>
-        ensures { MatchResult result
-            (λ p. (p ≡ record { width = width; height = height; cells = cells.items }) × (shape_fault width height (vec_len cells) ≡ None))
-            (λ e. (e.0.items ≡ cells.items) × (shape_fault width height (vec_len cells) ≡ Some e.1)) }
+        ensures { let fault = shape_fault width height (vec_len cells) in MatchResult result
+            (λ p. (p ≡ record { width = width; height = height; cells = cells.items }) × (fault ≡ None))
+            (λ e. (e.0.items ≡ cells.items) × (fault ≡ Some e.1)) }
     {
         if width == 0 || height == 0 {
             return Err((cells, ShapeFault::Zero));
