@@ -28,11 +28,11 @@ as_second : (a : Axis) (upper : Bool) (f : ℕ → Image) (row : List ℕ) → a
 as_second One upper f row e = absurd cc
 as_second Two upper f row e = ends upper f row
 
-flat_flat : (g f : ℕ → List ℕ) (xs : List ℕ) → flat_map g (flat_map f xs) ≡ flat_map (λ x. flat_map g (f x)) xs
+pub flat_flat : (g f : ℕ → List ℕ) (xs : List ℕ) → flat_map g (flat_map f xs) ≡ flat_map (λ x. flat_map g (f x)) xs
 flat_flat g f [] = refl
 flat_flat g f (x ∷ xs) = flat_append g (f x) (flat_map f xs) ∙ ap (λ (ys : List ℕ). flat_map g (f x) ++ ys) (flat_flat g f xs)
 
-one_each : (row : List ℕ) → flat_map (λ t. t ∷ []) row ≡ row
+pub one_each : (row : List ℕ) → flat_map (λ t. t ∷ []) row ≡ row
 one_each [] = refl
 one_each (t ∷ ts) = ap (λ (xs : List ℕ). t ∷ xs) (one_each ts)
 

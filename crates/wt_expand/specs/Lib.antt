@@ -28,3 +28,5 @@ pub mod Spaces
 pub mod PieceTables
 -- What a tile some levels up stands for in one row of the first level.
 pub mod Words
+-- Scaffolding: the words of a level's tiles, kept in tables, and how long they are.
+pub mod WordTables

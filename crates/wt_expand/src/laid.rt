@@ -17,7 +17,7 @@ use wt_morphism::Image;
 const LONG: usize = 64;
 
 /// Writes a tile behind the first ones, while there is room, and tells how many there are then.
-fn put(row: &mut [u16], len: usize, tile: u16) -> usize
+pub fn put(row: &mut [u16], len: usize, tile: u16) -> usize
     requires { len ≤ length row.old }
     ensures put { take result row.new ≡ take (length row.old) (take len row.old ++ tile ∷ []) }
     ensures within { result ≤ length row.new }

@@ -16,3 +16,9 @@ pub const BESIDE_ROW: usize = 260;
 
 /// The longest block: that of a row of 4096 cells.
 pub const MAX_BLOCK: usize = 4356;
+
+/// The most tiles of a word, that is, of what a tile some levels up comes to in one row.
+pub const MAX_WORD: usize = 64;
+
+/// The most levels that words are made below, so that a table of them pays.
+pub const MAX_LOW: usize = 16;

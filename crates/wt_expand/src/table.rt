@@ -25,7 +25,7 @@ pub struct PieceTable {
 }
 
 /// How many tiles have an image.
-fn image_count(link: &RawLink) -> usize {
+pub fn image_count(link: &RawLink) -> usize {
     match link {
         RawLink::Marker(step) => step.images.as_slice().len(),
         RawLink::Restrict(step) => step.kept.as_slice().len(),
