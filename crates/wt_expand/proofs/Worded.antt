@@ -50,7 +50,7 @@ module _ (w : ℕ) (some : 1 ≤ w) (renaming : List ℕ) where
       by One e = row_along renaming level row upper e inside ∙ as_first (axis_of level.link) upper (piece_under renaming level) row e
       by Two e = row_across renaming level row upper e inside ∙ as_second (axis_of level.link) upper (piece_under renaming level) row e
 
-  few_cells : (levels : List Level) (s : Digit) (ss : List Digit) → AreDigits w renaming levels (s ∷ ss) → length s.row ≤ w
+  pub few_cells : (levels : List Level) (s : Digit) (ss : List Digit) → AreDigits w renaming levels (s ∷ ss) → length s.row ≤ w
   few_cells [] s [] f = let e : length s.row ≡ 1 = ap length f in omega (arith, e, some)
   few_cells [] s (t ∷ ss) f = absurd f
   few_cells (level ∷ levels) s [] f = absurd f

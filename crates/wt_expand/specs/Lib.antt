@@ -30,3 +30,5 @@ pub mod PieceTables
 pub mod Words
 -- Scaffolding: the words of a level's tiles, kept in tables, and how long they are.
 pub mod WordTables
+-- Scaffolding: a counter that keeps one cell of each of its lowest rows, and w cells of the others.
+pub mod Splits

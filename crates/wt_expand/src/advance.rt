@@ -3,13 +3,14 @@
 ghost use Rattle.std.specs.Prelude.{◌≡◌, ◌+◌, ◌*◌, ◌<◌, ◌≤◌, [], ◌∷◌, length, take, drop, true, false, None, slice_get, Some};
 ghost use Rattle.std.specs.Bool.{MatchBool};
 ghost use Rattle.wt_expand.specs.Levels.{Level};
-ghost use Rattle.wt_expand.specs.Rows.{AreDigits, row_number, all_rows};
 ghost use Rattle.wt_expand.specs.LaidRows.{has_two};
-ghost use Rattle.wt_expand.specs.Advances.{flip_from, laid_over, laid_by, laid_under, IsAdvanced, IsLastRow};
+ghost use Rattle.wt_expand.specs.Advances.{flip_from, laid_over, laid_by, IsAdvanced, IsLastRow};
 ghost use Rattle.wt_expand.specs.Advances as spec;
 ghost use Rattle.wt_expand.specs.Blocks.{digit_of, digits};
 ghost use Rattle.wt_expand.specs.Counters.{counter_levels, level_of, digits_at, row_at_level, HasLevel};
-ghost use Rattle.wt_expand.specs.Spaces.{HasRoom, row_count, row_in, HasDigits};
+ghost use Rattle.wt_expand.specs.Spaces.{HasRoom, row_count, row_in};
+ghost use Rattle.wt_expand.specs.Splits.{laid_below, HasSplit};
+ghost use Rattle.wt_expand.specs.Splits as splits;
 
 use crate::counter::{Counter, LevelRef};
 use crate::laid::{is_upper, lay_first, row_of};
@@ -126,32 +127,54 @@ fn follow_at(counter: &Counter<'_>, direction: Direction, w: usize, i: usize, sp
     lay_at(counter, w, i, upper, space);
 }
 
+/// How many cells are kept of the row of level i: one below level `low`, else w.
+fn cells_kept(low: usize, w: usize, i: usize) -> usize
+    requires { 1 ≤ w }
+    ensures value { result ≡ splits.cells_kept low w i }
+    ensures within { result ≤ w }
+{
+    if i < low { 1 } else { w }
+}
+
 /// Lays the rows of the levels below level j, each from the row above.
-pub fn lay_below(counter: &Counter<'_>, direction: Direction, w: usize, j: usize, space: &mut [u16])
+fn lay_below(
+    counter: &Counter<'_>,
+    direction: Direction,
+    low: usize,
+    w: usize,
+    j: usize,
+    space: &mut [u16],
+)
     requires room { HasRoom counter.now space.old }
     requires wide { w + 2 ≤ counter.now.block }
     requires thin { w ≤ MAX_SIDE }
+    requires some { 1 ≤ w }
     requires level { j ≤ length (counter_levels counter.now) }
-    ensures laid { digits_at counter.now 0 space.new
-        ≡ laid_under direction w counter.now.renaming.now (take j (counter_levels counter.now)) (digits_at counter.now j space.old) }
+    ensures laid { digits_at counter.now 0 space.new ≡ laid_below direction low w counter.now j space.old }
     ensures size { length space.new ≡ length space.old }
 {
     let mut i = j;
     while i > 0 {
         i -= 1;
-        follow_at(counter, direction, w, i, space);
+        follow_at(counter, direction, cells_kept(low, w, i), i, space);
     }
 }
 
 /// Goes to the next row in the direction, where there is one; says false, and changes nothing, where there is
-/// none.
-pub fn advance(counter: &Counter<'_>, direction: Direction, w: usize, space: &mut [u16]) -> bool
+/// none. Of each row below level `low` one cell is kept, of the others w cells.
+pub fn advance(
+    counter: &Counter<'_>,
+    direction: Direction,
+    low: usize,
+    w: usize,
+    space: &mut [u16],
+) -> bool
     requires room { HasRoom counter.now space.old }
     requires wide { w + 2 ≤ counter.now.block }
     requires thin { w ≤ MAX_SIDE }
     requires some { 1 ≤ w }
-    requires fits { HasDigits w counter.now space.old }
-    ensures advanced { result ≡ true → HasDigits w counter.now space.new
+    requires fits { HasSplit low w counter.now space.old }
+    ensures advanced { result ≡ true → HasSplit low w counter.now space.new
         × IsAdvanced direction (row_in counter.now space.old)
         (row_in counter.now space.new) }
     ensures last { result ≡ false → IsLastRow direction (row_count counter.now)
@@ -161,8 +184,9 @@ pub fn advance(counter: &Counter<'_>, direction: Direction, w: usize, space: &mu
     match first_flip(counter, direction, space) {
         None => false,
         Some(j) => {
-            lay_at(counter, w, j, flipped(direction), space);
-            lay_below(counter, direction, w, j, space);
+            let kept = cells_kept(low, w, j);
+            lay_at(counter, kept, j, flipped(direction), space);
+            lay_below(counter, direction, low, w, j, space);
             true
         }
     }
@@ -181,34 +205,34 @@ fn set_top(counter: &Counter<'_>, space: &mut [u16])
     space[top + 2] = 0;
 }
 
-/// Sets the counter to the bottom row: all bits are 0.
+/// Sets the counter to the bottom row, w cells of each row: all bits are 0.
 pub fn reset(counter: &Counter<'_>, w: usize, space: &mut [u16])
     requires room { HasRoom counter.now space.old }
     requires wide { w + 2 ≤ counter.now.block }
     requires thin { w ≤ MAX_SIDE }
     requires some { 1 ≤ w }
-    ensures fits { HasDigits w counter.now space.new }
+    ensures fits { HasSplit 0 w counter.now space.new }
     ensures bottom { row_in counter.now space.new ≡ 0 }
     ensures size { length space.new ≡ length space.old }
 {
     set_top(counter, space);
-    lay_below(counter, Direction::Up, w, counter.count(), space);
+    lay_below(counter, Direction::Up, 0, w, counter.count(), space);
 }
 
-/// Lays all rows anew, w cells of each; the bits stay.
-pub fn widen(counter: &Counter<'_>, w: usize, space: &mut [u16])
+/// Lays the rows from level `low` on anew, w cells of each, where one cell of each row was kept; the bits stay.
+pub fn widen(counter: &Counter<'_>, low: usize, w: usize, space: &mut [u16])
     requires room { HasRoom counter.now space.old }
     requires wide { w + 2 ≤ counter.now.block }
     requires thin { w ≤ MAX_SIDE }
     requires some { 1 ≤ w }
-    requires fits { AreDigits 1 counter.now.renaming.now (counter_levels counter.now) (digits_at counter.now 0 space.old) }
-    ensures fits { HasDigits w counter.now space.new }
-    ensures same { row_in counter.now space.new
-        ≡ row_in counter.now space.old }
+    requires within { low ≤ length (counter_levels counter.now) }
+    requires fits { HasSplit 0 1 counter.now space.old }
+    ensures fits { HasSplit low w counter.now space.new }
+    ensures same { row_in counter.now space.new ≡ row_in counter.now space.old }
     ensures size { length space.new ≡ length space.old }
 {
     let mut i = counter.count();
-    while i > 0 {
+    while i > low {
         i -= 1;
         let upper = is_upper(rest_at(counter, i, space));
         lay_at(counter, w, i, upper, space);

@@ -9,7 +9,7 @@ pub loop-y-preserved : goal.loop-y-preserved
 loop-y-preserved c =
     let test = c.loop-y-test.true in
     record {
-      at_row = one_up c.args.w c.args.counter.now c.loop-y.space c.advance.new.space c.loop-y.y c.args.h c.advance.result c.loop-y.invariant.at_row test c.requires.rows c.advance.ensures.advanced c.advance.ensures.last;
+      at_row = one_up 0 c.args.w c.args.counter.now c.loop-y.space c.advance.new.space c.loop-y.y c.args.h c.advance.result c.loop-y.invariant.at_row test c.requires.rows c.advance.ensures.advanced c.advance.ensures.last;
       inside = omega (arith, test);
       size = c.advance.ensures.size ∙ c.loop-y.invariant.size;
     }
