@@ -6,6 +6,7 @@ use Rattle.wt_expand.specs.Rows.{Digit, AreDigits}
 use Rattle.wt_expand.specs.Advances.{laid_by}
 use Rattle.wt_expand.specs.declared.counter.Counter.{Counter}
 use Rattle.wt_expand.specs.Counters.{counter_levels, digits_at}
+use Rattle.wt_expand.specs.Words.{row_by_words}
 
 -- a digit whose row is kept one cell
 abbrev pub thin : Digit → Digit
@@ -43,3 +44,7 @@ HasSplit low w counter space = AreSplit low w counter.renaming.now (counter_leve
 -- the digits once the rows below level j are laid
 abbrev pub laid_below : Direction → ℕ → ℕ → Counter → ℕ → List ℕ → List Digit
 laid_below direction low w counter j space = split_under direction low w counter.renaming.now 0 (take j (counter_levels counter)) (digits_at counter j space)
+
+-- the row that is due, w cells of it, laid of the row of level `low` alone
+abbrev pub row_due : ℕ → ℕ → Counter → List ℕ → List ℕ
+row_due low w counter space = row_by_words w counter.renaming.now (counter_levels counter) low (digits_at counter 0 space)
