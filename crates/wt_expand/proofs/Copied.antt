@@ -1,6 +1,6 @@
 -- Words that are copied into a row, as far as there is room.
 use Rattle.std.proofs.Common.{arith, ◌≡◌, ◌≤◌, ◌+◌, ◌-◌, ◌++◌, ℕ, zero, suc, min, List, [], ◌∷◌, length, take, drop, refl, sym, ◌∙◌, ap, append_assoc, inl, inr}
-use Rattle.std.proofs.lemmas.List.{take-take, take_at, drop_at, take_all, length-take, take-append-le, length-take-le}
+use Rattle.std.proofs.lemmas.List.{take-take, take_at, drop_at, take_all, length-take, length-drop, take-append-le, length-take-le}
 use Rattle.std.proofs.lemmas.Bool.{cases_lt}
 use Rattle.std.proofs.Math.Seq.{take-add}
 use borrow.Rule.Slice.PartMut.{put_mid, post_of}
@@ -31,6 +31,15 @@ copied row tiles now len k n m c within least_of few whole same =
     ∙ ap (λ (p : List ℕ). front ++ p) (take-append-le n now (post_of len k row) (omega (arith, few, have)) ∙ some)
     ∙ sym (behind len (length row - len) front (take m tiles) long)
     ∙ ap (λ (r : ℕ). take r (front ++ take m tiles)) room
+
+-- the same of a word that lies among others
+pub copied_word : (row all now : List ℕ) (len k n m c start s count : ℕ) → start ≡ s → count ≡ m → len ≤ length row → n ≡ min count (length row - len) → n ≤ c → start + c ≤ length all
+    → now ≡ take (start + c - start) (drop start all) → take (len + n) (put_mid len k row now) ≡ take (length row) (take len row ++ take m (drop s all))
+copied_word row all now len k n m c start s count at size within least_of few whole same =
+    let d : start + c - start ≡ c = omega arith in
+    copied row (drop start all) now len k n count c within least_of few (omega (arith, length-drop start all, whole)) (same ∙ ap (λ (j : ℕ). take j (drop start all)) d)
+    ∙ ap (λ (j : ℕ). take (length row) (take len row ++ take j (drop start all))) size
+    ∙ ap (λ (j : ℕ). take (length row) (take len row ++ take m (drop j all))) at
 
 cut_front : (n : ℕ) (xs ys : List ℕ) → take n (take n xs ++ ys) ≡ take n (xs ++ ys)
 cut_front zero xs ys = refl

@@ -1,19 +1,17 @@
 -- The words above a level are joined of the words below it, and no word is long.
-use Rattle.std.proofs.Common.{arith, ◌≡◌, ◌≤◌, ◌<◌, ◌+◌, ◌*◌, ℕ, zero, suc, Bool, List, [], ◌∷◌, length, get_or, set, take, drop, slice_get, Some, refl, sym, ◌∙◌, ap, subst, inl, inr}
+use Rattle.std.proofs.Common.{arith, ◌≡◌, ◌≤◌, ◌<◌, ◌+◌, ◌*◌, ℕ, zero, suc, Bool, List, [], ◌∷◌, length, take, drop, slice_get, Some, refl, sym, ◌∙◌, ap}
 use Rattle.wt_grid.specs.declared.image.Image.{Image}
 use Rattle.wt_grid.specs.declared.axis.Axis.TheVariants.{One, Two}
 use Rattle.wt_grid.specs.declared.axis.Axis.{Axis}
 use Rattle.std.specs.List.{flat_map}
-use Rattle.std.proofs.lemmas.List.{append-nil, length-append, drop-drop, get_or-set_same, get_or-set_other}
-use Rattle.std.proofs.lemmas.Bool.{cases_lt}
+use Rattle.std.proofs.lemmas.List.{append-nil, length-append, drop-drop}
 use Rattle.wt_grid.specs.Traces.{piece_tiles}
 use Rattle.wt_chain.specs.Turns.{axis_of}
-use Rattle.wt_expand.specs.declared.words.Word.{Word}
 use Rattle.wt_expand.specs.Levels.{Level}
 use Rattle.wt_expand.specs.Rows.{Digit}
 use Rattle.wt_expand.specs.Blocks.{digit_of, digits, piece_under, tile_of}
 use Rattle.wt_expand.specs.Words.{laid_piece, word, words}
-use Rattle.wt_expand.specs.WordTables.{times, longest_word, no_word, IsWord}
+use Rattle.wt_expand.specs.WordTables.{times, longest_word}
 use Rattle.wt_expand.proofs.Places.{same_some}
 use Rattle.wt_expand.proofs.Tabled.{few}
 use Rattle.wt_expand.proofs.Worded.{flat_flat, one_each}
@@ -59,17 +57,6 @@ pub of_image : (renaming : List ℕ) (b i k : ℕ) (levels : List Level) (space 
 of_image renaming b i k levels space ss level upper t p next e whole bit laid =
     joined renaming b i k levels space ss level upper t next e whole bit
     ∙ ap (λ (q : Image). flat_map (words renaming (take i levels) ss) (piece_tiles q)) (sym laid)
-
--- one word more in a table, and those before it stay
-pub word_more : (table : List Word) (new : Word) (t : ℕ) (f : ℕ → List ℕ) → t < length table → IsWord new (f t) → ((k : ℕ) → k < t → IsWord (get_or table k no_word) (f k))
-    → (k : ℕ) → k < t + 1 → IsWord (get_or (set table t new) k no_word) (f k)
-word_more table new t f inside is each k le = elim (cases_lt k t) [
-  | inl less ↦ subst (λ (w : Word). IsWord w (f k)) (sym (get_or-set_other table t k new no_word (apart less))) (each k less)
-  | inr more ↦ let e : t ≡ k = omega (arith, le, more) in subst (λ (m : ℕ). IsWord (get_or (set table t new) m no_word) (f m)) e (subst (λ (w : Word). IsWord w (f t)) (sym (get_or-set_same table t new no_word inside)) is)
-]
-  where
-    apart : k < t → k ≡ t → ⊥
-    apart less e = absurd (omega (arith, less, e))
 
 -- ---- how long words are
 

@@ -20,5 +20,8 @@ pub const MAX_BLOCK: usize = 4356;
 /// The most tiles of a word, that is, of what a tile some levels up comes to in one row.
 pub const MAX_WORD: usize = 64;
 
+/// How many tiles there is room for in a table of words.
+pub const MAX_TABLE: usize = 2112;
+
 /// The most levels that words are made below, so that a table of them pays.
 pub const MAX_LOW: usize = 16;

@@ -1,41 +1,40 @@
 // Rows laid word by word: what the tiles of a level come to in the row that is due is made once for each tile,
 // and then copied.
-ghost use Rattle.std.specs.Prelude.{◌≡◌, ◌+◌, ◌*◌, ◌<◌, ◌≤◌, ◌++◌, length, take, drop};
+ghost use Rattle.std.specs.Prelude.{◌≡◌, ◌+◌, ◌*◌, ◌<◌, ◌≤◌, ◌++◌, length, take, drop, slice_index};
 ghost use Rattle.std.specs.List.{flat_map};
-ghost use Rattle.wt_grid.specs.Traces.{piece_tiles};
 ghost use Rattle.wt_morphism.specs.Images as images;
 ghost use Rattle.wt_chain.specs.Turns.{axis_of};
 ghost use Rattle.wt_expand.specs.Counters.{counter_levels, row_at_level};
 ghost use Rattle.wt_expand.specs.Spaces.{HasRoom};
-ghost use Rattle.wt_expand.specs.WordTables.{times, HasShortWords, words_below, image_laid_at, no_word, IsWord, HasWords};
+ghost use Rattle.wt_expand.specs.WordTables.{times, HasShortWords, words_below, image_laid_at, image_below, word_at, HasWords};
 
 use crate::counter::{Counter, LevelRef, lies_in_rows};
 use crate::laid::{is_upper, put, row_of, tile_of};
-use crate::limits::{MAX_LOW, MAX_WORD};
+use crate::limits::{MAX_LOW, MAX_TABLE, MAX_WORD};
 use crate::table::image_count;
 use wt_grid::MAX_TILES;
 use wt_morphism::Image;
 
 /// A word of no more tiles than these is copied as so many, whichever of them count.
-const SHORT: usize = 32;
+const SHORT: usize = 16;
+
+/// The same of longer words.
+const MIDDLE: usize = 32;
 
 /// A row pays for words that are so many times shorter.
 const PAYS: usize = 64;
 
-/// The tiles that a tile some levels up comes to in one row.
-#[derive(Clone, Copy, Drop)]
-pub struct Word {
-    /// These tiles, and others behind them.
-    pub tiles: [u16; MAX_WORD],
-    /// How many of them count.
-    pub len: usize,
-}
-
-/// The words of the first tiles of a set.
+/// The words of the first tiles of a set: what each comes to in one row.
 #[derive(Drop)]
 pub struct WordTable {
-    /// The word of each tile.
-    pub words: [Word; MAX_TILES],
+    /// The words, one behind the other.
+    pub tiles: [u16; MAX_TABLE],
+    /// How many tiles are in use.
+    pub end: usize,
+    /// Where the word of a tile begins.
+    pub starts: [u16; MAX_TILES],
+    /// How many tiles it has.
+    pub lens: [u16; MAX_TILES],
     /// How many tiles have words.
     pub count: usize,
 }
@@ -99,26 +98,33 @@ fn block_at<'s>(counter: &Counter<'_>, i: usize, space: &'s [u16]) -> &'s [u16]
 
 /// Writes a word behind the first tiles, as far as there is room, and tells how many there are then. Where
 /// there is room for more, more is written than counts.
-fn put_word(row: &mut [u16], len: usize, word: &Word) -> usize
+fn put_word(row: &mut [u16], len: usize, table: &WordTable, t: usize) -> usize
     requires within { len ≤ length row.old }
-    requires few { word.now.len ≤ MAX_WORD }
-    ensures put { take result row.new
-        ≡ take (length row.old) (take len row.old ++ take word.now.len word.now.tiles) }
+    requires tile { t < MAX_TILES }
+    requires place { slice_index table.now.starts t + MAX_WORD ≤ MAX_TABLE }
+    requires few { slice_index table.now.lens t ≤ MAX_WORD }
+    ensures put { take result row.new ≡ take (length row.old) (take len row.old ++ word_at table.now t) }
     ensures within { result ≤ length row.new }
     ensures room { length row.new ≡ length row.old }
 {
+    let start = usize::from(table.starts[t]);
+    let count = usize::from(table.lens[t]);
     let room = row.len() - len;
-    if word.len <= SHORT && SHORT <= room {
-        row[len..len + SHORT].copy_from_slice(&word.tiles[..SHORT]);
-        return len + word.len;
-    }
     if MAX_WORD <= room {
-        row[len..len + MAX_WORD].copy_from_slice(&word.tiles);
-        return len + word.len;
+        if count <= SHORT {
+            row[len..len + SHORT].copy_from_slice(&table.tiles[start..start + SHORT]);
+            return len + count;
+        }
+        if count <= MIDDLE {
+            row[len..len + MIDDLE].copy_from_slice(&table.tiles[start..start + MIDDLE]);
+            return len + count;
+        }
+        row[len..len + MAX_WORD].copy_from_slice(&table.tiles[start..start + MAX_WORD]);
+        return len + count;
     }
-    let count = word.len.min(room);
-    row[len..len + count].copy_from_slice(&word.tiles[..count]);
-    len + count
+    let some = count.min(room);
+    row[len..len + some].copy_from_slice(&table.tiles[start..start + some]);
+    len + some
 }
 
 /// Writes what a tile above the lowest k levels comes to, with no table, tile by tile.
@@ -176,7 +182,7 @@ fn put_tile(
 {
     let t = usize::from(tile);
     if t < table.count {
-        return put_word(row, len, &table.words[t]);
+        return put_word(row, len, table, t);
     }
     put_slowly(counter, k, space, row, len, tile)
 }
@@ -188,46 +194,59 @@ fn put_image(
     space: &[u16],
     table: &WordTable,
     row: &mut [u16],
+    len: usize,
     image: Image,
 ) -> usize
     requires room { HasRoom counter.now space.now }
     requires wide { 2 ≤ counter.now.block }
     requires level { k ≤ length (counter_levels counter.now) }
     requires table { HasWords table.now (words_below counter.now k space.now) }
+    requires within { len ≤ length row.old }
     ensures put { take result row.new
-        ≡ take (length row.old) (flat_map (words_below counter.now k space.now) (piece_tiles (images.piece image))) }
+        ≡ take (length row.old) (take len row.old ++ image_below counter.now k space.now (images.piece image)) }
     ensures within { result ≤ length row.new }
     ensures room { length row.new ≡ length row.old }
 {
     match image {
-        Image::One(a) => put_tile(counter, k, space, table, row, 0, a),
+        Image::One(a) => put_tile(counter, k, space, table, row, len, a),
         Image::Two(a, b) => {
-            let next = put_tile(counter, k, space, table, row, 0, a);
+            let next = put_tile(counter, k, space, table, row, len, a);
             put_tile(counter, k, space, table, row, next, b)
         }
     }
 }
 
-/// Makes the word that is joined of those of an image's tiles.
-fn set_word(
+/// Makes the word of the next tile, of which this image is laid: the words of the image's tiles.
+fn push_word(
     counter: &Counter<'_>,
     k: usize,
     space: &[u16],
-    table: &WordTable,
+    below: &WordTable,
     image: Image,
-    word: &mut Word,
+    table: &mut WordTable,
 )
     requires room { HasRoom counter.now space.now }
     requires wide { 2 ≤ counter.now.block }
     requires level { k ≤ length (counter_levels counter.now) }
-    requires table { HasWords table.now (words_below counter.now k space.now) }
-    requires short { length (flat_map (words_below counter.now k space.now) (piece_tiles (images.piece image))) ≤ MAX_WORD }
-    ensures { IsWord word.new (flat_map (words_below counter.now k space.now) (piece_tiles (images.piece image))) }
+    requires below { HasWords below.now (words_below counter.now k space.now) }
+    requires table { HasWords table.old (words_below counter.now (k + 1) space.now) }
+    requires image { words_below counter.now (k + 1) space.now table.old.count
+        ≡ image_below counter.now k space.now (images.piece image) }
+    requires short { length (image_below counter.now k space.now (images.piece image)) ≤ MAX_WORD }
+    requires place { table.old.end + MAX_WORD ≤ MAX_TABLE }
+    requires inside { table.old.count < MAX_TILES }
+    ensures table { HasWords table.new (words_below counter.now (k + 1) space.now) }
+    ensures count { table.new.count ≡ table.old.count + 1 }
 {
-    word.len = put_image(counter, k, space, table, &mut word.tiles, image);
+    let start = table.end;
+    let end = put_image(counter, k, space, below, &mut table.tiles, start, image);
+    table.starts[table.count] = start as u16;
+    table.lens[table.count] = (end - start) as u16;
+    table.end = end;
+    table.count += 1;
 }
 
-/// Makes the words above level k of those below it.
+/// Makes the words above level k of those below it, as far as there is room.
 fn set_words(
     counter: &Counter<'_>,
     k: usize,
@@ -245,28 +264,27 @@ fn set_words(
     let level = counter.level(k);
     let upper = is_upper(block_at(counter, k, space));
     let count = image_count(level.link).min(MAX_TILES);
+    table.count = 0;
+    table.end = 0;
     for t in 0..count {
+        if MAX_TABLE - table.end < MAX_WORD {
+            return;
+        }
         let image = image_laid(counter, level, upper, t as u16);
-        set_word(counter, k, space, below, image, &mut table.words[t]);
-    }
-    table.count = count;
-}
-
-fn blank() -> Word
-    ensures { result ≡ no_word }
-{
-    Word {
-        tiles: [0; MAX_WORD],
-        len: 0,
+        push_word(counter, k, space, below, image, table);
     }
 }
 
 /// A table with no word yet.
 fn no_words() -> WordTable
-    ensures { result.count ≡ 0 }
+    ensures count { result.count ≡ 0 }
+    ensures end { result.end ≡ 0 }
 {
     WordTable {
-        words: [blank(); MAX_TILES],
+        tiles: [1; MAX_TABLE],
+        end: 0,
+        starts: [1; MAX_TILES],
+        lens: [1; MAX_TILES],
         count: 0,
     }
 }
