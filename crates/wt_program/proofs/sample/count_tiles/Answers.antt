@@ -10,8 +10,11 @@ loop-cell-init c = record {
   counted = λ u lt. get_or-replicate 256 u 0 0 lt ∙ sym (units_none u c.args.cells.now);
 }
 
-pub count_one-requires : goal.count_one-requires
-count_one-requires c = λ u lt.
+pub count_one-requires-clause-tile : goal.count_one-requires-clause-tile
+count_one-requires-clause-tile c = c.requires c.loop-cell.cell-index
+
+pub count_one-requires-clause-room : goal.count_one-requires-clause-room
+count_one-requires-clause-room c = λ u lt.
     let a = c.loop-cell.invariant.counted u lt in
     let b = units_front u c.loop-cell.cell-index c.args.cells.now in
     omega (arith, a, b, c.loop-cell-test.true)
